@@ -77,11 +77,6 @@ cleared_low x s high is =
     let turned : 2 ^ s * (2 * high) ≡ 2 * 2 ^ s * high = omega arith in
     ap cleared is ∙ cleared_high s (1 + 2 * high) ∙ ap (λ (z : ℕ). 2 ^ s * z) (cleared_odd high) ∙ turned ∙ ap (λ (z : ℕ). z * high) (sym (pow_next s))
 
--- as the code clears it
-pub cleared_as : (x : ℕ) → x < 2 ^ 64 → bit_and x ((x + (2 ^ 64 - 1)) % 2 ^ 64) ≡ cleared x
-cleared_as zero fits = and_none ((0 + (2 ^ 64 - 1)) % 2 ^ 64) ∙ sym (and_none (0 - 1))
-cleared_as (suc x) fits = let e : (suc x + (2 ^ 64 - 1)) % 2 ^ 64 ≡ suc x - 1 = omega (arith, fits) in ap (bit_and (suc x)) e
-
 -- without its lowest 1s, so many
 abbrev pub clears : (count x : ℕ) → ℕ
 clears zero x = x
@@ -95,9 +90,22 @@ pub clears_most : (count x : ℕ) → clears count x ≤ x
 clears_most zero x = omega arith
 clears_most (suc count) x = omega (arith, clears_most count (cleared x), and_le_l x (x - 1))
 
+-- as the code clears them
+abbrev pub cleared_by : (count x : ℕ) → ℕ
+cleared_by zero x = x
+cleared_by (suc count) x = cleared_by count (bit_and x ((x + (2 ^ 64 - 1)) % 2 ^ 64))
+
+one_cleared : (x : ℕ) → x < 2 ^ 64 → bit_and x ((x + (2 ^ 64 - 1)) % 2 ^ 64) ≡ cleared x
+one_cleared zero fits = and_none ((0 + (2 ^ 64 - 1)) % 2 ^ 64) ∙ sym (and_none (0 - 1))
+one_cleared (suc x) fits = let e : (suc x + (2 ^ 64 - 1)) % 2 ^ 64 ≡ suc x - 1 = omega (arith, fits) in ap (bit_and (suc x)) e
+
+pub all_cleared : (count x : ℕ) → x < 2 ^ 64 → cleared_by count x ≡ clears count x
+all_cleared zero x fits = refl
+all_cleared (suc count) x fits = all_cleared count (bit_and x ((x + (2 ^ 64 - 1)) % 2 ^ 64)) (omega (arith, and_le_l x ((x + (2 ^ 64 - 1)) % 2 ^ 64), fits)) ∙ ap (clears count) (one_cleared x fits)
+
 -- ---- the chunks of a number
 
-ends_chunks : (payload count word : ℕ) → bit_at word (count * suc payload + payload) ≡ 0 → ((j : ℕ) → j < count → bit_at word (j * suc payload + payload) ≡ 1) → EndsChunks payload (suc count) word
+pub ends_chunks : (payload count word : ℕ) → bit_at word (count * suc payload + payload) ≡ 0 → ((j : ℕ) → j < count → bit_at word (j * suc payload + payload) ≡ 1) → EndsChunks payload (suc count) word
 ends_chunks payload zero word off on = let e : 0 * suc payload + payload ≡ payload = omega arith in subst (λ (i : ℕ). bit_at word i ≡ 0) e off
 ends_chunks payload (suc count) word off on =
     let first : 0 * suc payload + payload ≡ payload = omega arith in
@@ -107,23 +115,21 @@ ends_chunks payload (suc count) word off on =
       ends_chunks payload count (word / 2 ^ suc payload) (moved count 0 off) (λ j lt. moved j 1 (on (suc j) (omega (arith, lt)))),
     )
 
+enough : (count limit payload : ℕ) → 63 < limit * payload → count * payload ≤ 57 → count ≤ limit
+enough count limit payload many few = elim (cases_lt limit count) [ inl lt ↦ absurd (omega (arith, mul-le limit payload count payload (omega (arith, lt)) (omega arith), many, few)) | inr le ↦ le ]
+
+pub chunks_read : (payload count word more p : ℕ) (rest : List Bool) → 1 ≤ payload → suc count * suc payload ≤ 57 → EndsChunks payload (suc count) word
+    → reading (vbr (suc payload)) p (bits_of (suc count * suc payload + more) word ++ rest) ≡ Ok (payload_number payload (suc count) word, p + suc count * suc payload, bits_of more (word / 2 ^ (suc count * suc payload)) ++ rest)
+unfolding vbr
+chunks_read payload count word more p rest some few ends =
+    let bits = suc count * suc payload in
+    let read = short_reads (suc count) payload p (chunk_limit payload) 64 (bits + more) word p rest ends (enough (suc count) (chunk_limit payload) payload (limit_times payload some).0 (omega (arith, few))) (omega arith) (omega (arith, few)) in
+    read ∙ ap (λ (s : List Bool). Ok (payload_number payload (suc count) word, p + bits, s ++ rest)) (drop-bits_of bits more word)
+
 -- what the rule reads of the first bits of a word, whatever follows them
 record FirstReads (n bits word : ℕ) : Type 0 where
   pub value : ℕ
   pub reads : (more p : ℕ) (rest : List Bool) → reading (vbr n) p (bits_of (bits + more) word ++ rest) ≡ Ok (value, p + bits, bits_of more (word / 2 ^ bits) ++ rest)
-
-enough : (count limit payload : ℕ) → 63 < limit * payload → count * payload ≤ 57 → count ≤ limit
-enough count limit payload many few = elim (cases_lt limit count) [ inl lt ↦ absurd (omega (arith, mul-le limit payload count payload (omega (arith, lt)) (omega arith), many, few)) | inr le ↦ le ]
-
-chunks_read : (payload count word : ℕ) → 1 ≤ payload → suc count * suc payload ≤ 57 → EndsChunks payload (suc count) word → FirstReads (suc payload) (suc count * suc payload) word
-unfolding vbr
-chunks_read payload count word some few ends = record {
-  value = payload_number payload (suc count) word;
-  reads = λ more p rest.
-      let bits = suc count * suc payload in
-      let read = short_reads (suc count) payload p (chunk_limit payload) 64 (bits + more) word p rest ends (enough (suc count) (chunk_limit payload) payload (limit_times payload some).0 (omega (arith, few))) (omega arith) (omega (arith, few)) in
-      read ∙ ap (λ (s : List Bool). Ok (payload_number payload (suc count) word, p + bits, s ++ rest)) (drop-bits_of bits more word);
-}
 
 -- ---- marks
 
@@ -145,7 +151,7 @@ first_marked payload limit mask word s high some short m is =
     let k = multiple payload s here.1 in
     let place : s ≡ k.0 * suc payload + payload = omega (arith, k.1) in
     let off : bit_at word (k.0 * suc payload + payload) ≡ 0 = subst (λ (i : ℕ). bit_at word i ≡ 0) place here.2 in
-    subst (λ (bits : ℕ). FirstReads (suc payload) bits word) (sym k.1) (chunks_read payload k.0 word some (omega (arith, k.1, here.0, short)) (ends_chunks payload k.0 word off (on k.0 place here.0)))
+    subst (λ (bits : ℕ). FirstReads (suc payload) bits word) (sym k.1) (record { value = payload_number payload (suc k.0) word; reads = λ more p rest. chunks_read payload k.0 word more p rest some (omega (arith, k.1, here.0, short)) (ends_chunks payload k.0 word off (on k.0 place here.0)) })
   where
     on : (k : ℕ) → s ≡ k * suc payload + payload → s < limit → (j : ℕ) → j < k → bit_at word (j * suc payload + payload) ≡ 1
     on k place lt j less =

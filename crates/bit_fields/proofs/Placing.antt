@@ -4,8 +4,8 @@ use Rattle.std.specs.Prelude.{◌↔◌}
 use Rattle.std.specs.Int.{w64, bit_at, bit_not, trailing_zeros}
 use Rattle.std.proofs.lemmas.Bool.{cases_lt}
 use Rattle.std.proofs.lemmas.List.{take-append-drop, length-drop, length-append, append-nil, drop-take}
-use Rattle.std.proofs.lemmas.Nat.{and_le_l, and_mask, shr_le, one_shl, or_lt, pow_below, div-add-mod'}
-use Rattle.std.proofs.lemmas.Nat.Bits.{bit_at_and, bit_at_or, bit_at_not, bit_at-lt, bit_at-zero, bit_at-pow_same, bit_at-pow_other, and_high_mask}
+use Rattle.std.proofs.lemmas.Nat.{and_le_l, and_mask, shr_le, one_shl, or_lt, or_comm, or_shifted, pow_below, pow_pos, div-add-mod'}
+use Rattle.std.proofs.lemmas.Nat.Bits.{bit_at_and, bit_at_or, bit_at_not, bit_at-lt, bit_at-zero, bit_at-pow_same, bit_at-pow_other, and_pow, and_high, and_high_mask}
 use Rattle.std.proofs.Math.Nat.{div-eq_of_lt, mod-eq_of_lt, mul-mod_left, add-mod_right, mul-add-mod_self_right}
 use Rattle.std.proofs.Math.Pow.{pow_mono}
 use Rattle.std.proofs.Math.Seq.{drop-append-add}
@@ -15,11 +15,12 @@ use Rattle.bit_grammar.specs.Fields.{fixed, vbr}
 use Rattle.bit_grammar.proofs.Bits.Numbers.{length-bits_of}
 use Rattle.bit_fields.specs.Buffered.{BufferedBits, Reads, beyond}
 use Rattle.bit_fields.specs.Inside.{part_of}
+use Rattle.bit_fields.specs.Short.{payload_number}
 use Rattle.bit_fields.specs.Placed.{AreTops, HasNumbers, Shows, bits_at}
 use Rattle.bit_fields.specs.SixBits.{Begins}
 use Rattle.bit_fields.proofs.BitLaws.{length-bits_of_bytes, take-bits_of, drop-bits_of, window_value, drop_more, bytes_dropped, bits_of_bytes-take, left_after}
 use Rattle.bit_fields.proofs.BufferedReads.{reads_there}
-use Rattle.bit_fields.proofs.EndMarks.{Marks, EndsHere, bit_behind, same_bits, clears, clears_most, split_low, marked_reads}
+use Rattle.bit_fields.proofs.EndMarks.{Marks, EndsHere, bit_behind, same_bits, ends_chunks, chunks_read, clears, clears_most, cleared_by, all_cleared, split_low, marked_reads}
 use Rattle.bit_fields.proofs.LentParts.{parts_is, fixed_reads}
 use Rattle.bit_fields.proofs.Loading.{front_again}
 use Rattle.bit_fields.proofs.Parts.{part_at}
@@ -130,15 +131,16 @@ has_word n count t ends a fits shows here =
     let all : a.bits ≡ bits_of (suc t) (bit_not w64 ends) ++ rest = sym (take-append-drop (suc t) a.bits) ∙ ap (λ (s : List Bool). s ++ rest) (sym (shows.front t set)) in
     subst (HasNumbers n count a) next (shows.there t set, (here.reads.values, here.reads.many, ap (reading (repeat count (vbr n)) a.position) all ∙ here.reads.reads a.position rest))
 
-pub has_few : (n tops ends count left : ℕ) (a : BufferedBits) → 2 ≤ n → AreTops n tops → ends < 2 ^ 64 → Shows ends a.bits → left ≡ clears count (bit_and ends tops) → (left ≡ 0 → ⊥) → HasNumbers n (suc count) a (trailing_zeros w64 left + 1) × (trailing_zeros w64 left < 57)
-has_few n tops ends count left a two are fits shows left_is some =
+pub has_few : (n tops ends count others left len : ℕ) (a : BufferedBits) → 2 ≤ n → AreTops n tops → ends < 2 ^ 64 → Shows ends a.bits → count ≡ suc others → left ≡ cleared_by others (bit_and ends tops) → (left ≡ 0 → ⊥) → len ≡ trailing_zeros w64 left + 1 → HasNumbers n count a len × (len ≤ 57)
+has_few n tops ends count others left len a two are fits shows count_is left_is some len_is =
     let mask : ℕ = bit_and ends tops in
     let small : mask < 2 ^ 64 = omega (arith, and_le_l ends tops, fits) in
+    let clear : left ≡ clears others mask = left_is ∙ all_cleared others mask small in
     let last = split_low left left (omega arith) (positive left some) in
     let width : suc (n - 1) ≡ n = omega (arith, two) in
-    let here : EndsHere n 57 (suc count) last.0 (bit_not w64 ends) = subst (λ (m : ℕ). EndsHere m 57 (suc count) last.0 (bit_not w64 ends)) width (marked_reads count (n - 1) 57 mask (bit_not w64 ends) last.0 last.1 (omega (arith, two)) (omega arith) small (subst (λ (m : ℕ). Marks m 57 mask (bit_not w64 ends)) (sym width) (marks_of n tops ends are fits)) (sym left_is ∙ last.2)) in
-    let t_is : trailing_zeros w64 left ≡ last.0 = lowest_is left last.0 last.1 (omega (arith, left_is, clears_most count mask, small)) last.2 in
-    (subst (λ (t : ℕ). HasNumbers n (suc count) a (t + 1)) (sym t_is) (has_word n (suc count) last.0 ends a fits shows here), omega (arith, t_is, here.within))
+    let here : EndsHere n 57 (suc others) last.0 (bit_not w64 ends) = subst (λ (m : ℕ). EndsHere m 57 (suc others) last.0 (bit_not w64 ends)) width (marked_reads others (n - 1) 57 mask (bit_not w64 ends) last.0 last.1 (omega (arith, two)) (omega arith) small (subst (λ (m : ℕ). Marks m 57 mask (bit_not w64 ends)) (sym width) (marks_of n tops ends are fits)) (sym clear ∙ last.2)) in
+    let place : last.0 + 1 ≡ len = omega (arith, len_is, lowest_is left last.0 last.1 (omega (arith, clear, clears_most others mask, small)) last.2) in
+    (subst (λ (k : ℕ). HasNumbers n k a len) (sym count_is) (subst (HasNumbers n (suc others) a) place (has_word n (suc others) last.0 ends a fits shows here)), omega (arith, place, here.within))
   where
     positive : (x : ℕ) → (x ≡ 0 → ⊥) → 0 < x
     positive zero none = absurd (none refl)
@@ -286,3 +288,101 @@ has_sixes count len ends a fits some few shows off begins =
     let set : bit_at ends (len - 1) ≡ 1 = omega (arith, bit_at_not w64 ends (len - 1) fits (omega (arith, few)), off, bit_at-lt ends (len - 1)) in
     let next : suc (len - 1) ≡ len = omega (arith, some) in
     has_begun count len ends a few (omega (arith, shows.there (len - 1) set)) (subst (λ (k : ℕ). bits_of k (bit_not w64 ends) ≡ take k a.bits) next (shows.front (len - 1) set)) begins
+
+-- ---- a loop over numbers
+
+-- some more numbers were passed
+pub further : (n count left some len start from here to s t : ℕ) (bytes others more : List ℕ) → left ≤ count → some ≤ left → s ≡ start → t ≡ s → from ≤ here → bits_at s here others ≡ beyond (bits_at start from bytes) (here - from) → bits_at t to more ≡ beyond (bits_at s here others) len
+    → HasNumbers n (count - left) (bits_at start from bytes) (here - from) → HasNumbers n some (bits_at s here others) len → (from ≤ to) × (bits_at t to more ≡ beyond (bits_at start from bytes) (to - from)) × HasNumbers n (count - (left - some)) (bits_at start from bytes) (to - from)
+further n count left some len start from here to s t bytes others more few enough s_is t_is on was is first later =
+    let a : BufferedBits = bits_at start from bytes in
+    let place : to ≡ here + len = omega (arith, ap (λ (x : BufferedBits). x.position) is, s_is, t_is) in
+    let all : to - from ≡ here - from + len = omega (arith, place, on) in (
+      omega (arith, place, on),
+      is ∙ ap (λ (x : BufferedBits). beyond x len) was ∙ beyond_both a (here - from) len ∙ ap (beyond a) (sym all),
+      has_both n (count - left) some (count - (left - some)) (here - from) len (to - from) a (omega (arith, few, enough)) all first (subst (λ (x : BufferedBits). HasNumbers n some x len) was later),
+    )
+
+-- ---- a short number in chunks of six bits
+
+set_bit : (x k : ℕ) → (bit_and x (2 ^ k) ≡ 0 → ⊥) → bit_at x k ≡ 1
+set_bit x k some = one (bit_at x k) (bit_at-lt x k) (λ none. some (and_pow x k ∙ none))
+  where
+    one : (b : ℕ) → b < 2 → (b * 2 ^ k ≡ 0 → ⊥) → b ≡ 1
+    one zero lt some = absurd (some (omega arith))
+    one (suc zero) lt some = refl
+    one (suc (suc b)) lt some = absurd (omega (arith, lt))
+
+clear_bit : (x k : ℕ) → bit_and x (2 ^ k) ≡ 0 → bit_at x k ≡ 0
+clear_bit x k none = off (bit_at x k) (sym (and_pow x k) ∙ none)
+  where
+    off : (b : ℕ) → b * 2 ^ k ≡ 0 → b ≡ 0
+    off zero none = refl
+    off (suc b) none = absurd (omega (arith, none, pow_pos k))
+
+pub six_there : (k ends : ℕ) (s : List Bool) → Shows ends s → (bit_and ends (2 ^ k) ≡ 0 → ⊥) → suc k ≤ length s
+six_there k ends s shows some = omega (arith, shows.there k (set_bit ends k some))
+
+six_reads : (k ends : ℕ) (a : BufferedBits) → ends < 2 ^ 64 → k ≤ 8 → Shows ends a.bits → bit_at ends (k * 6 + 5) ≡ 1 → ((j : ℕ) → j < k → bit_at ends (j * 6 + 5) ≡ 0) → Reads (vbr 6) a (payload_number 5 (suc k) (bit_not w64 ends)) (beyond a (suc k * 6))
+six_reads k ends a fits few shows set clear =
+    let word : ℕ = bit_not w64 ends in
+    let bits : ℕ = suc k * 6 in
+    let off : bit_at word (k * 6 + 5) ≡ 0 = omega (arith, bit_at_not w64 ends (k * 6 + 5) fits (omega (arith, few)), set) in
+    let on : (j : ℕ) → j < k → bit_at word (j * 6 + 5) ≡ 1 = λ j lt. omega (arith, bit_at_not w64 ends (j * 6 + 5) fits (omega (arith, few, lt)), clear j lt) in
+    let one = chunks_read 5 k word 0 a.position (drop bits a.bits) (omega arith) (omega (arith, few)) (ends_chunks 5 k word off on) in
+    let next : suc (k * 6 + 5) ≡ suc k * 6 = omega arith in
+    let front : bits_of bits word ≡ take bits a.bits = subst (λ (n : ℕ). bits_of n word ≡ take n a.bits) next (shows.front (k * 6 + 5) set) in
+    let whole : bits ≡ bits + 0 = omega arith in
+    let all : a.bits ≡ bits_of (bits + 0) word ++ drop bits a.bits = sym (take-append-drop bits a.bits) ∙ ap (λ (s : List Bool). s ++ drop bits a.bits) (sym front ∙ ap (λ (n : ℕ). bits_of n word) whole) in
+    ap (reading (vbr 6) a.position) all ∙ one
+
+pub six_one : (ends : ℕ) (a : BufferedBits) → ends < 2 ^ 64 → Shows ends a.bits → (bit_and ends 32 ≡ 0 → ⊥) → Reads (vbr 6) a (bit_and (bit_not w64 ends) 31) (beyond a 6)
+six_one ends a fits shows some =
+    let value : payload_number 5 1 (bit_not w64 ends) ≡ bit_and (bit_not w64 ends) 31 = omega (arith, and_mask (bit_not w64 ends) 5) in
+    subst (λ (v : ℕ). Reads (vbr 6) a v (beyond a 6)) value (six_reads 0 ends a fits (omega arith) shows (set_bit ends 5 some) (λ j lt. absurd (omega (arith, lt))))
+
+or_above : (low high k : ℕ) → low < 2 ^ k → bit_or low (high * 2 ^ k) ≡ low + high * 2 ^ k
+or_above low high k lt = omega (arith, or_comm low (high * 2 ^ k), or_shifted high k low lt)
+
+two_payloads : (word : ℕ) → bit_or (bit_and word 31) (bit_and (word / 2) 992) ≡ word % 32 + (word / 64 % 32) * 32
+two_payloads word =
+    let low : bit_and word 31 ≡ word % 32 = and_mask word 5 in
+    let high : bit_and (word / 2) 992 ≡ (word / 64 % 32) * 32 = and_high (word / 2) 5 5 ∙ deeper word in
+    ap (λ (x : ℕ). bit_or x (bit_and (word / 2) 992)) low ∙ ap (bit_or (word % 32)) high ∙ or_above (word % 32) (word / 64 % 32) 5 (omega arith)
+  where
+    deeper : (word : ℕ) → (word / 2 / 32 % 32) * 32 ≡ (word / 64 % 32) * 32
+    deeper word = omega arith
+
+three_payloads : (word : ℕ) → bit_or (bit_or (bit_and word 31) (bit_and (word / 2) 992)) (bit_and (word / 4) 31744) ≡ word % 32 + (word / 64 % 32) * 32 + (word / 4096 % 32) * 1024
+three_payloads word =
+    let high : bit_and (word / 4) 31744 ≡ (word / 4096 % 32) * 1024 = and_high (word / 4) 5 10 ∙ deeper word in
+    ap (λ (x : ℕ). bit_or x (bit_and (word / 4) 31744)) (two_payloads word) ∙ ap (bit_or (word % 32 + (word / 64 % 32) * 32)) high ∙ or_above (word % 32 + (word / 64 % 32) * 32) (word / 4096 % 32) 10 (omega arith)
+  where
+    deeper : (word : ℕ) → (word / 4 / 1024 % 32) * 1024 ≡ (word / 4096 % 32) * 1024
+    deeper word = omega arith
+
+pub six_two : (ends : ℕ) (a : BufferedBits) → ends < 2 ^ 64 → Shows ends a.bits → bit_and ends 32 ≡ 0 → (bit_and ends 2048 ≡ 0 → ⊥) → Reads (vbr 6) a (bit_or (bit_and (bit_not w64 ends) 31) (bit_and (bit_not w64 ends / 2) 992)) (beyond a 12)
+six_two ends a fits shows first some =
+    let word : ℕ = bit_not w64 ends in
+    subst (λ (v : ℕ). Reads (vbr 6) a v (beyond a 12)) (value word ∙ sym (two_payloads word)) (six_reads 1 ends a fits (omega arith) shows (set_bit ends 11 some) on)
+  where
+    value : (word : ℕ) → payload_number 5 2 word ≡ word % 32 + (word / 64 % 32) * 32
+    value word = omega arith
+
+    on : (j : ℕ) → j < 1 → bit_at ends (j * 6 + 5) ≡ 0
+    on zero lt = clear_bit ends 5 first
+    on (suc j) lt = absurd (omega (arith, lt))
+
+pub six_three : (ends : ℕ) (a : BufferedBits) → ends < 2 ^ 64 → Shows ends a.bits → bit_and ends 32 ≡ 0 → bit_and ends 2048 ≡ 0 → (bit_and ends 131072 ≡ 0 → ⊥)
+    → Reads (vbr 6) a (bit_or (bit_or (bit_and (bit_not w64 ends) 31) (bit_and (bit_not w64 ends / 2) 992)) (bit_and (bit_not w64 ends / 4) 31744)) (beyond a 18)
+six_three ends a fits shows first second some =
+    let word : ℕ = bit_not w64 ends in
+    subst (λ (v : ℕ). Reads (vbr 6) a v (beyond a 18)) (value word ∙ sym (three_payloads word)) (six_reads 2 ends a fits (omega arith) shows (set_bit ends 17 some) on)
+  where
+    value : (word : ℕ) → payload_number 5 3 word ≡ word % 32 + (word / 64 % 32) * 32 + (word / 4096 % 32) * 1024
+    value word = omega arith
+
+    on : (j : ℕ) → j < 2 → bit_at ends (j * 6 + 5) ≡ 0
+    on zero lt = clear_bit ends 5 first
+    on (suc zero) lt = clear_bit ends 11 second
+    on (suc (suc j)) lt = absurd (omega (arith, lt))

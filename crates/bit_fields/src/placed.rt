@@ -37,5 +37,6 @@ pub struct ChunkTops {
 pub struct LoadedBits<'a> {
     bits: PlacedBits<'a>,
     ends: u64,
+    ghost word: { ends < 2 ^ 64 },
     ghost shows: { Shows ends (bits_at bits.start bits.at bits.bytes.now).bits },
 }
