@@ -13,7 +13,7 @@ bit-eqb zero lt = refl
 bit-eqb (suc zero) lt = refl
 bit-eqb (suc (suc r)) lt = absurd (omega arith)
 
-pow_next : (n : ℕ) → 2 ^ suc n ≡ 2 * 2 ^ n
+pub pow_next : (n : ℕ) → 2 ^ suc n ≡ 2 * 2 ^ n
 pow_next n = rw pow-suc (omega arith)
 
 pub number-bits_mod : (n v : ℕ) → number (bits_of n v) ≡ v % 2 ^ n

@@ -26,7 +26,7 @@ use Rattle.bit_fields.proofs.BufferedReads.{reads_took, took_reads}
 abbrev pub buffered_of : (end : ℕ) → List Bool → List ℕ → BufferedBits
 buffered_of end window bytes = record { position = end - (length window + 8 * length bytes); bits = window ++ bits_of_bytes bytes }
 
-parts_is : (p q : ℕ) (s t : List Bool) → p ≡ q → s ≡ t → ◌≡◌ {A = BufferedBits} (record { position = p; bits = s }) (record { position = q; bits = t })
+pub parts_is : (p q : ℕ) (s t : List Bool) → p ≡ q → s ≡ t → ◌≡◌ {A = BufferedBits} (record { position = p; bits = s }) (record { position = q; bits = t })
 parts_is p q s t place same = rw (place, same) refl
 
 pub buffered_length : (w : List Bool) (bytes : List ℕ) → length (w ++ bits_of_bytes bytes) ≡ length w + 8 * length bytes

@@ -29,4 +29,6 @@ pub mod Loading
 pub mod SixBits
 pub mod SixBitSums
 pub mod SixBitForms
+pub mod EndMarks
+pub mod Placing
 pub mod PlainRecords

@@ -31,7 +31,7 @@ same_ok x y e = cc
 not_ok : {A E : Type 0} (x : A) (y : E) → ◌≡◌ {A = Result A E} (Err y) (Ok x) → ⊥
 not_ok x y e = cc
 
-repeat_both : {A : Type 0} (rule : Grammar A) (m n k p : ℕ) (s : List Bool) (xs ys : List A) (q : ℕ) (t : List Bool) (u : ℕ) (v : List Bool) → k ≡ m + n → Read (repeat m rule) p s xs q t → Read (repeat n rule) q t ys u v → Read (repeat k rule) p s (xs ++ ys) u v
+pub repeat_both : {A : Type 0} (rule : Grammar A) (m n k p : ℕ) (s : List Bool) (xs ys : List A) (q : ℕ) (t : List Bool) (u : ℕ) (v : List Bool) → k ≡ m + n → Read (repeat m rule) p s xs q t → Read (repeat n rule) q t ys u v → Read (repeat k rule) p s (xs ++ ys) u v
 repeat_both {A} rule zero n k p s xs ys q t u v all e f =
     let same = same_ok ([], p, s) (xs, q, t) e in
     let count : n ≡ k = omega (arith, all) in

@@ -1,10 +1,11 @@
 -- The numbers that end in each chunk of six bits of a word, counted by one product.
 use Rattle.std.proofs.Common.{◌≡◌, ℕ, zero, suc, ◌+◌, ◌*◌, ◌-◌, ◌/◌, ◌%◌, ◌^◌, ◌<◌, ◌≤◌, Bool, true, false, eqb, List, [], ◌∷◌, length, refl, sym, ap, ◌∙◌, subst, arith, bit_and, inl, inr}
 use Rattle.std.specs.Int.{w64, bit_at, trailing_zeros}
-use Rattle.std.proofs.lemmas.Bool.{cases_lt}
-use Rattle.std.proofs.lemmas.Nat.{shr-shr, pow-add, pow_pos, and_block, and-not, and_le_r, and_mask, mod_low, leading_length, shl-shr}
+use Rattle.std.proofs.lemmas.Bool.{cases_lt, eqb-true}
+use Rattle.std.proofs.lemmas.Nat.{shr-shr, pow-add, pow_pos, and_block, and-not, and_le_r, and_mask, and_mod, mod_low, leading_length, shl-shr}
 use Rattle.std.specs.Int.Count.{count_leading_zeros}
 use Rattle.std.proofs.lemmas.Nat.Bits.{and_pow, bit_at-trailing_zeros}
+use Rattle.std.proofs.Math.Nat.{mod-eq_of_lt}
 use Rattle.std.proofs.Math.Pow.{pow_mono, mod-mod-pow}
 use Rattle.bit_grammar.specs.Bits.{bit}
 use Rattle.bit_fields.specs.Short.{EndsChunks}
@@ -266,33 +267,47 @@ reach (false ∷ ends) before wanted most rest most_is there rest_is =
     (reached_later (length ends) x (before + 0 + rest) false ends (suc wanted) (suc wanted) (omega (arith, most_is, rest_is)) (λ chunks h. (omega arith, h)) later)
 
 -- the lowest bit that is set
-lowest_is : (x t high : ℕ) → x < 2 ^ 64 → x ≡ 2 ^ t * (1 + 2 * high) → trailing_zeros w64 x ≡ t
+pub low_set : (x t high : ℕ) → x ≡ 2 ^ t * (1 + 2 * high) → bit_at x t ≡ 1
+low_set x t high is =
+    let turned : x ≡ (1 + 2 * high) * 2 ^ t = omega (arith, is) in
+    let odd : (1 + 2 * high) % 2 ≡ 1 = omega arith in
+    ap (λ (y : ℕ). y / 2 ^ t % 2) turned ∙ ap (λ (y : ℕ). y % 2) (shl-shr (1 + 2 * high) t) ∙ odd
+
+-- a bit below it
+pub low_clear : (x t high z more : ℕ) → x ≡ 2 ^ t * (1 + 2 * high) → t ≡ z + suc more → bit_at x z ≡ 0
+low_clear x t high z more is e =
+    let power : 2 ^ t ≡ 2 ^ z * (2 * 2 ^ more) = ap (λ (k : ℕ). 2 ^ k) (e ∙ (let e : z + suc more ≡ z + (1 + more) = omega arith in e)) ∙ pow-add 2 z (1 + more) ∙ ap (λ (y : ℕ). 2 ^ z * y) (pow-add 2 1 more) in
+    let turned : x ≡ (2 * (2 ^ more * (1 + 2 * high))) * 2 ^ z = is ∙ rw power (omega arith) in
+    ap (λ (y : ℕ). y / 2 ^ z % 2) turned ∙ ap (λ (y : ℕ). y % 2) (shl-shr (2 * (2 ^ more * (1 + 2 * high))) z) ∙ even (2 ^ more * (1 + 2 * high))
+  where
+    even : (y : ℕ) → 2 * y % 2 ≡ 0
+    even y = omega arith
+
+pub lowest_is : (x t high : ℕ) → x < 2 ^ 64 → x ≡ 2 ^ t * (1 + 2 * high) → trailing_zeros w64 x ≡ t
 lowest_is x t high fits is =
     let some : 0 < x = omega (arith, is, pow_pos t) in
     let found : (trailing_zeros w64 x < 64) × (bit_at x (trailing_zeros w64 x) ≡ 1) × ((i : ℕ) → i < trailing_zeros w64 x → bit_at x i ≡ 0) = bit_at-trailing_zeros w64 x some fits in
     only (trailing_zeros w64 x) found.1 found.2
   where
-    at_place : bit_at x t ≡ 1
-    at_place =
-        let turned : x ≡ (1 + 2 * high) * 2 ^ t = omega (arith, is) in
-        let odd : (1 + 2 * high) % 2 ≡ 1 = omega arith in
-        ap (λ (y : ℕ). y / 2 ^ t % 2) turned ∙ ap (λ (y : ℕ). y % 2) (shl-shr (1 + 2 * high) t) ∙ odd
-
-    doubled : (y : ℕ) → 2 * y % 2 ≡ 0
-    doubled y = omega arith
-
-    below : (z more : ℕ) → t ≡ z + suc more → bit_at x z ≡ 0
-    below z more e =
-        let power : 2 ^ t ≡ 2 ^ z * (2 * 2 ^ more) = ap (λ (k : ℕ). 2 ^ k) (e ∙ (let e : z + suc more ≡ z + (1 + more) = omega arith in e)) ∙ pow-add 2 z (1 + more) ∙ ap (λ (y : ℕ). 2 ^ z * y) (pow-add 2 1 more) in
-        let turned : x ≡ (2 * (2 ^ more * (1 + 2 * high))) * 2 ^ z = is ∙ rw power (omega arith) in
-        let even : 2 * (2 ^ more * (1 + 2 * high)) % 2 ≡ 0 = doubled (2 ^ more * (1 + 2 * high)) in
-        ap (λ (y : ℕ). y / 2 ^ z % 2) turned ∙ ap (λ (y : ℕ). y % 2) (shl-shr (2 * (2 ^ more * (1 + 2 * high))) z) ∙ even
-
     only : (z : ℕ) → bit_at x z ≡ 1 → ((i : ℕ) → i < z → bit_at x i ≡ 0) → z ≡ t
     only z set none = elim (cases_lt z t) [
-      | inl lt ↦ let e : t ≡ z + suc (t - suc z) = omega (arith, lt) in absurd (omega (arith, set, below z (t - suc z) e))
-      | inr le ↦ elim (cases_lt t z) [ inl lt ↦ absurd (omega (arith, none t lt, at_place)) | inr ge ↦ omega (arith, le, ge) ]
+      | inl lt ↦ let e : t ≡ z + suc (t - suc z) = omega (arith, lt) in absurd (omega (arith, set, low_clear x t high z (t - suc z) is e))
+      | inr le ↦ elim (cases_lt t z) [ inl lt ↦ absurd (omega (arith, none t lt, low_set x t high is)) | inr ge ↦ omega (arith, le, ge) ]
     ]
+
+-- the last chunk's top bit is 0
+runs_last : (k word count chunks : ℕ) → Runs (lasts k word) count (suc chunks) → bit_at word (6 * chunks + 5) ≡ 0
+runs_last zero word count chunks h = absurd h
+runs_last (suc k) word count chunks h = by_first (eqb (word / 2 ^ 5 % 2) 0) chunks refl (λ others chunks h. runs_last k (word / 64) others chunks h) h
+  where
+    moved : (chunks : ℕ) → bit_at (word / 64) (6 * chunks + 5) ≡ 0 → bit_at word (6 * suc chunks + 5) ≡ 0
+    moved chunks off = let e : 6 * suc chunks + 5 ≡ 6 + (6 * chunks + 5) = omega arith in ap (bit_at word) e ∙ sym (ap (λ (y : ℕ). y % 2) (shr-shr word 6 (6 * chunks + 5))) ∙ off
+
+    by_first : (last : Bool) (chunks : ℕ) → eqb (word / 2 ^ 5 % 2) 0 ≡ last → ((others chunks : ℕ) → Runs (lasts k (word / 64)) others (suc chunks) → bit_at (word / 64) (6 * chunks + 5) ≡ 0) → Runs (last ∷ lasts k (word / 64)) count (suc chunks) → bit_at word (6 * chunks + 5) ≡ 0
+    by_first true zero is later h = eqb-true (word / 2 ^ 5 % 2) 0 is
+    by_first true (suc chunks) is later h = moved chunks (later h.0 chunks h.2)
+    by_first false zero is later h = absurd (omega (arith, h.0))
+    by_first false (suc chunks) is later h = moved chunks (later count chunks h.1)
 
 -- ---- as the code finds them
 
@@ -361,13 +376,70 @@ all_ran {word} {ends} {sum} {total} s =
       none_follows word last.chunks (64 - count_leading_zeros 64 ends) last.runs bits,
     )
 
-pub some_ran : {word ends sum total : ℕ} (most : ℕ) → Summed word ends sum total → 0 < most → most < total → Ran word most (trailing_zeros w64 (bit_and (sum + (32 - most) * ones 9) (tops 9)) + 1)
-some_ran {word} {ends} {sum} {total} most s some fewer =
+-- the first chunks where so many numbers have ended, and the last bit of these chunks
+pub some_ended : {word ends sum total : ℕ} (most : ℕ) → Summed word ends sum total → 0 < most → most ≤ total
+    → Ran word most (trailing_zeros w64 (bit_and (sum + (32 - most) * ones 9) (tops 9)) + 1) × (bit_at word (trailing_zeros w64 (bit_and (sum + (32 - most) * ones 9) (tops 9))) ≡ 0)
+some_ended {word} {ends} {sum} {total} most s some fewer =
     let nine : total ≤ 9 = nine_at_most s in
     let wanted : most ≡ suc (most - 1) = omega (arith, some) in
     let found = reach (lasts 9 word) 0 (most - 1) most (32 - most) (omega (arith, wanted)) (omega (arith, wanted, fewer, total_of s)) (omega (arith, nine, fewer)) in
     let x : ℕ = bit_and (sum + (32 - most) * ones 9) (tops 9) in
     let x_is : x ≡ 2 ^ (6 * found.before + 5) * (1 + 2 * found.high) = ap (λ (y : ℕ). bit_and (y + (32 - most) * ones 9) (tops 9)) (sums_of s) ∙ found.reached in
     let fits : x < 2 ^ 64 = omega (arith, and_le_r (sum + (32 - most) * ones 9) (tops 9)) in
-    let place : trailing_zeros w64 x ≡ 6 * found.before + 5 = lowest_is x (6 * found.before + 5) found.high fits x_is in
-    subst (λ (n : ℕ). Ran word n (trailing_zeros w64 x + 1)) (sym wanted) (ran word (suc (most - 1)) (trailing_zeros w64 x + 1) (suc found.before) found.runs (omega (arith, place)))
+    let place : trailing_zeros w64 x ≡ 6 * found.before + 5 = lowest_is x (6 * found.before + 5) found.high fits x_is in (
+      subst (λ (n : ℕ). Ran word n (trailing_zeros w64 x + 1)) (sym wanted) (ran word (suc (most - 1)) (trailing_zeros w64 x + 1) (suc found.before) found.runs (omega (arith, place))),
+      ap (bit_at word) place ∙ runs_last 9 word (suc (most - 1)) found.before found.runs,
+    )
+
+pub some_ran : {word ends sum total : ℕ} (most : ℕ) → Summed word ends sum total → 0 < most → most < total → Ran word most (trailing_zeros w64 (bit_and (sum + (32 - most) * ones 9) (tops 9)) + 1)
+some_ran most s some fewer = (some_ended most s some (omega (arith, fewer))).0
+
+-- ---- the chunk where enough numbers have ended, if there is one
+
+-- the code's term
+abbrev pub reached_in : (word count : ℕ) → ℕ
+reached_in word count = bit_and ((ends_in word / 2 ^ 5 * ones 9 % 2 ^ 64 + (32 - count) * ones 9 % 2 ^ 64) % 2 ^ 64) (tops 9)
+
+tops_cut : (x : ℕ) → bit_and x (tops 9) ≡ bit_and (x % 2 ^ 54) (tops 9)
+tops_cut x =
+    let small : bit_and x (tops 9) < 2 ^ 54 = omega (arith, and_le_r x (tops 9)) in
+    sym (mod-eq_of_lt small) ∙ and_mod x (tops 9) 54
+
+sums_cut : (x r sum : ℕ) → sum ≡ x % 2 ^ 54 → r < 2 ^ 64 → (x + r % 2 ^ 64) % 2 ^ 64 % 2 ^ 54 ≡ (sum + r) % 2 ^ 54
+sums_cut x r sum is small =
+    let whole : r % 2 ^ 64 ≡ r = mod-eq_of_lt small in
+    let parts : (x + r) % 2 ^ 54 ≡ (sum + r) % 2 ^ 54 = omega (arith, is) in
+    ap (λ (y : ℕ). (x + y) % 2 ^ 64 % 2 ^ 54) whole ∙ mod-mod-pow (x + r) 10 54 ∙ parts
+
+reached_is : (word count : ℕ) → reached_in word count ≡ bit_and (sum_in word + (32 - count) * ones 9) (tops 9)
+reached_is word count =
+    let x : ℕ = ends_in word / 2 ^ 5 * ones 9 % 2 ^ 64 in
+    let r : ℕ = (32 - count) * ones 9 in
+    let small : r < 2 ^ 64 = omega arith in
+    tops_cut ((x + r % 2 ^ 64) % 2 ^ 64) ∙ ap (λ (y : ℕ). bit_and y (tops 9)) (sums_cut x r (sum_in word) (and_mask x 54) small) ∙ sym (tops_cut (sum_in word + r))
+
+none_reached : (ends : List Bool) (before most rest : ℕ) → before + ended ends < most → rest + most ≡ 32 → bit_and (sums before ends + rest * ones (length ends)) (tops (length ends)) ≡ 0
+none_reached [] before most rest few is = nothing (bit_and (0 + rest * 0) 0) (and_le_r (0 + rest * 0) 0)
+  where
+    nothing : (x : ℕ) → x ≤ 0 → x ≡ 0
+    nothing x le = omega (arith, le)
+none_reached (last ∷ ends) before most rest few is =
+    let x : ℕ = sums (before + bit last) ends + rest * ones (length ends) in
+    let low : ℕ = before + bit last + rest in
+    let lt : low < 32 = omega (arith, few, is) in
+    let off : low / 32 % 2 ≡ 0 = omega (arith, lt) in
+    let later : bit_and x (tops (length ends)) ≡ 0 = none_reached ends (before + bit last) most rest (omega (arith, few)) is in
+    ap (λ (y : ℕ). bit_and y (tops (suc (length ends)))) (raised_step (sums (before + bit last) ends) rest (ones (length ends)) (before + bit last)) ∙ tops_apart (length ends) x low (omega (arith, lt)) ∙ rw (off, later) refl
+
+pub end_ran : (word count : ℕ) → word < 2 ^ 64 → 0 < count → count ≤ 32 → (reached_in word count ≡ 0 → ⊥) → Ran word count (trailing_zeros w64 (reached_in word count) + 1) × (bit_at word (trailing_zeros w64 (reached_in word count)) ≡ 0)
+end_ran word count fits some few reached =
+    let s = summed word fits in
+    let total : ℕ = sum_in word / 2 ^ 48 in
+    let is : reached_in word count ≡ bit_and (sum_in word + (32 - count) * ones 9) (tops 9) = reached_is word count in
+    subst (λ (x : ℕ). Ran word count (trailing_zeros w64 x + 1) × (bit_at word (trailing_zeros w64 x) ≡ 0)) (sym is) (some_ended count s some (enough s total refl is))
+  where
+    enough : Summed word (ends_in word) (sum_in word) (sum_in word / 2 ^ 48) → (total : ℕ) → total ≡ sum_in word / 2 ^ 48 → reached_in word count ≡ bit_and (sum_in word + (32 - count) * ones 9) (tops 9) → count ≤ sum_in word / 2 ^ 48
+    enough s total total_is is = elim (cases_lt total count) [
+      | inl lt ↦ absurd (reached (is ∙ ap (λ (y : ℕ). bit_and (y + (32 - count) * ones 9) (tops 9)) (sums_of s) ∙ none_reached (lasts 9 word) 0 count (32 - count) (omega (arith, lt, total_is, total_of s)) (omega (arith, few))))
+      | inr le ↦ omega (arith, le, total_is)
+    ]

@@ -16,3 +16,5 @@ pub mod Packed
 pub mod Wide
 pub mod Expected
 pub mod SixBits
+pub mod Placed
+pub mod PlacedView

@@ -1,6 +1,6 @@
 -- Buffered bits at a place of bytes, and what a load of them shows.
-use Rattle.std.specs.Prelude.{◌≡◌, ℕ, suc, ◌+◌, ◌*◌, ◌-◌, ◌%◌, ◌^◌, ◌<◌, ◌≤◌, ◌↔◌, Bool, List, length, take, drop}
-use Rattle.std.specs.Int.{bit_at}
+use Rattle.std.specs.Prelude.{◌≡◌, ℕ, suc, ◌+◌, ◌%◌, ◌^◌, ◌<◌, ◌≤◌, ◌↔◌, Bool, List, length, take, drop}
+use Rattle.std.specs.Int.{w64, bit_at, bit_not}
 use Rattle.bit_grammar.specs.Bits.{bits_of, bits_of_bytes}
 use Rattle.bit_grammar.specs.Grammar.{repeat}
 use Rattle.bit_grammar.specs.Fields.{vbr}
@@ -10,14 +10,10 @@ use Rattle.bit_fields.specs.Buffered.{BufferedBits, Reads, beyond}
 abbrev pub bits_at : (start at : ℕ) → (bytes : List ℕ) → BufferedBits
 bits_at start at bytes = record { position = start + at; bits = drop at (bits_of_bytes bytes) }
 
--- The low bits of a word, at least so many, are the complements of the first bits; its other bits are 0.
-pub record Shows (least ends : ℕ) (bits : List Bool) : Type 0 where
-  pub count : ℕ
-  pub word : ℕ
-  pub many : least ≤ count
-  pub there : count ≤ length bits
-  pub front : bits_of count word ≡ take count bits
-  pub complement : suc (ends + word) ≡ 2 ^ count
+-- The bits up to each 1 of a word are the complements of the word's. So no 1 stands for a bit that was not loaded.
+pub record Shows (ends : ℕ) (bits : List Bool) : Type 0 where
+  pub there : (i : ℕ) → bit_at ends i ≡ 1 → i < length bits
+  pub front : (i : ℕ) → bit_at ends i ≡ 1 → bits_of (suc i) (bit_not w64 ends) ≡ take (suc i) bits
 
 -- the bits of a word of 57 bits that are the top bits of chunks of n bits
 pub record AreTops (n tops : ℕ) : Type 0 where

@@ -3,7 +3,8 @@
 //! The top bit of a chunk says that another one follows. A constant has the same six bits for each of the nine chunks, two octal
 //! digits a chunk. Sums and products are of all chunks at once: no chunk's sum reaches 64, so none carries into the next one.
 
-ghost use Rattle.std.specs.Prelude.{◌≡◌, ◌*◌, ◌<◌, ◌≤◌, true};
+ghost use Rattle.std.specs.Prelude.{◌≡◌, ◌*◌, ◌-◌, ◌<◌, ◌≤◌, true, IfSome};
+ghost use Rattle.std.specs.Int.{bit_at};
 ghost use Rattle.bit_fields.specs.SixBits.{Begins, NoneFollows, Shortest};
 
 /// The lowest bit of each chunk.
@@ -48,7 +49,12 @@ pub(crate) fn numbers_in(word: u64, most: u64) -> (u64, u32)
 /// The bit after this many numbers, if the nine chunks have so many.
 #[inline(always)]
 pub(crate) fn end_of(word: u64, count: u64) -> Option<u32>
-    requires { count ≤ 32 }
+    requires some { 0 < count }
+    requires few { count ≤ 32 }
+    ensures reads { IfSome result (λ bits. Begins word count bits) }
+    ensures some { IfSome result (λ bits. 0 < bits) }
+    ensures most { IfSome result (λ bits. bits ≤ 54) }
+    ensures last { IfSome result (λ bits. bit_at word (bits - 1) ≡ 0) }
 {
     let ends = !word & TOPS;
     let sums = (ends >> 5).wrapping_mul(ONES);

@@ -1,0 +1,388 @@
+-- Placed bits: what a load of them shows, and the lengths of numbers in them.
+use Rattle.std.proofs.Common.{◌≡◌, ◌≢◌, ℕ, zero, suc, ◌+◌, ◌*◌, ◌-◌, ◌/◌, ◌%◌, ◌^◌, ◌<◌, ◌≤◌, ◌⊎◌, Bool, List, [], ◌∷◌, ◌++◌, length, take, drop, Ok, refl, sym, ap, ◌∙◌, subst, arith, bit_and, bit_or, min, max, inl, inr}
+use Rattle.std.specs.Prelude.{◌↔◌}
+use Rattle.std.specs.Int.{w64, bit_at, bit_not, trailing_zeros}
+use Rattle.std.proofs.lemmas.Bool.{cases_lt}
+use Rattle.std.proofs.lemmas.List.{take-append-drop, length-drop, length-append, append-nil, drop-take}
+use Rattle.std.proofs.lemmas.Nat.{and_le_l, and_mask, shr_le, one_shl, or_lt, or_comm, or_shifted, pow_below, pow_pos, div-add-mod'}
+use Rattle.std.proofs.lemmas.Nat.Bits.{bit_at_and, bit_at_or, bit_at_not, bit_at-lt, bit_at-zero, bit_at-pow_same, bit_at-pow_other, and_pow, and_high, and_high_mask}
+use Rattle.std.proofs.Math.Nat.{div-eq_of_lt, mod-eq_of_lt, mul-mod_left, add-mod_right, mul-add-mod_self_right}
+use Rattle.std.proofs.Math.Pow.{pow_mono}
+use Rattle.std.proofs.Math.Seq.{drop-append-add}
+use Rattle.bit_grammar.specs.Bits.{bits_of, bits_of_bytes, number}
+use Rattle.bit_grammar.specs.Grammar.{repeat, reading}
+use Rattle.bit_grammar.specs.Fields.{fixed, vbr}
+use Rattle.bit_grammar.proofs.Bits.Numbers.{length-bits_of}
+use Rattle.bit_fields.specs.Buffered.{BufferedBits, Reads, beyond}
+use Rattle.bit_fields.specs.Inside.{part_of}
+use Rattle.bit_fields.specs.Short.{payload_number}
+use Rattle.bit_fields.specs.Placed.{AreTops, HasNumbers, Shows, bits_at}
+use Rattle.bit_fields.specs.SixBits.{Begins}
+use Rattle.bit_fields.proofs.BitLaws.{length-bits_of_bytes, take-bits_of, drop-bits_of, window_value, drop_more, bytes_dropped, bits_of_bytes-take, left_after}
+use Rattle.bit_fields.proofs.BufferedReads.{reads_there}
+use Rattle.bit_fields.proofs.EndMarks.{Marks, EndsHere, bit_behind, same_bits, ends_chunks, chunks_read, clears, clears_most, cleared_by, all_cleared, split_low, marked_reads}
+use Rattle.bit_fields.proofs.LentParts.{parts_is, fixed_reads}
+use Rattle.bit_fields.proofs.Loading.{front_again}
+use Rattle.bit_fields.proofs.Parts.{part_at}
+use Rattle.bit_fields.proofs.PlainRecords.{repeat_both}
+use Rattle.bit_fields.proofs.SixBits.{begun_front}
+use Rattle.bit_fields.proofs.SixBitSums.{lowest_is}
+
+-- ---- 1s of numbers
+
+not_there : (x i k : ℕ) → x < 2 ^ k → k ≤ i → bit_at x i ≡ 0
+not_there x i k below le =
+    let wide : 2 ^ k ≤ 2 ^ i = pow_mono {i = k} {j = i} le in
+    let none : x / 2 ^ i ≡ 0 = div-eq_of_lt (omega (arith, below, wide)) in
+    ap (λ (y : ℕ). y % 2) none
+
+below_top : (x i k : ℕ) → x < 2 ^ k → bit_at x i ≡ 1 → i < k
+below_top x i k below set = elim (cases_lt i k) [ inl lt ↦ lt | inr le ↦ absurd (omega (arith, set, not_there x i k below le)) ]
+
+-- ---- the top bits of chunks
+
+-- the top bits of chunks below a place, itself one
+pub record TopsBelow (n at tops : ℕ) : Type 0 where
+  pub below : tops < 2 ^ 57
+  pub place : suc at % n ≡ 0
+  pub each : (i : ℕ) → (bit_at tops i ≡ 1) ↔ ((suc i % n ≡ 0) × (i < at))
+
+pub no_tops : (n : ℕ) → 2 ≤ n → TopsBelow n (n - 1) 0
+no_tops n two = record {
+  below = omega arith;
+  place = ap (λ (x : ℕ). x % n) (let e : suc (n - 1) ≡ 1 * n = omega (arith, two) in e) ∙ mul-mod_left 1 n;
+  each = λ i. (λ set. absurd (omega (arith, set, bit_at-zero i)), λ h. absurd (none i h.0 h.1));
+}
+  where
+    none : (i : ℕ) → suc i % n ≡ 0 → i < n - 1 → ⊥
+    none i whole lt = let e : suc i % n ≡ suc i = mod-eq_of_lt (omega (arith, lt)) in omega (arith, e, whole)
+
+pub more_tops : (n at tops : ℕ) → 2 ≤ n → at < 57 → TopsBelow n at tops → TopsBelow n (at + n) (bit_or tops (1 * 2 ^ at % 2 ^ 64))
+more_tops n at tops two lt t =
+    let one : 1 * 2 ^ at % 2 ^ 64 ≡ 2 ^ at = one_shl at 64 (omega (arith, lt)) in
+    subst (λ (x : ℕ). TopsBelow n (at + n) (bit_or tops x)) (sym one) (record {
+      below = or_lt 57 tops (2 ^ at) t.below (pow_below at 57 lt);
+      place = ap (λ (x : ℕ). x % n) (let e : suc (at + n) ≡ suc at + n = omega arith in e) ∙ add-mod_right (suc at) n ∙ t.place;
+      each = λ i. (λ set. is_top i set (same_or i), λ h. has_top i h.0 h.1 (cases_lt i at));
+    })
+  where
+    both : (i : ℕ) → bit_at (bit_or tops (2 ^ at)) i ≡ max (bit_at tops i) (bit_at (2 ^ at) i)
+    both i = bit_at_or tops (2 ^ at) i
+
+    same_or : (i : ℕ) → (i ≡ at) ⊎ (i ≢ at)
+    same_or i = elim (cases_lt i at) [
+      | inl lt ↦ inr (λ e. omega (arith, lt, e))
+      | inr le ↦ elim (cases_lt at i) [ inl lt ↦ inr (λ e. omega (arith, lt, e)) | inr ge ↦ inl (omega (arith, le, ge)) ]
+    ]
+
+    is_top : (i : ℕ) → bit_at (bit_or tops (2 ^ at)) i ≡ 1 → (i ≡ at) ⊎ (i ≢ at) → (suc i % n ≡ 0) × (i < at + n)
+    is_top i set (inl e) = (ap (λ (x : ℕ). suc x % n) e ∙ t.place, omega (arith, e, two))
+    is_top i set (inr other) =
+        let before : bit_at tops i ≡ 1 = omega (arith, both i, set, bit_at-pow_other at i other, bit_at-lt tops i) in
+        let h = (t.each i).0 before in
+        (h.0, omega (arith, h.1))
+
+    apart : (i d : ℕ) → suc i ≡ suc at + suc d → suc d < n → suc i % n ≡ 0 → ⊥
+    apart i d e less whole =
+        let at_is : suc at ≡ suc at / n * n = omega (arith, div-add-mod' (suc at) n, t.place) in
+        let sum : suc i ≡ suc at / n * n + suc d = omega (arith, e, at_is) in
+        let rest : suc i % n ≡ suc d = ap (λ (x : ℕ). x % n) sum ∙ mul-add-mod_self_right (suc at / n) n (suc d) ∙ mod-eq_of_lt less in
+        omega (arith, rest, whole)
+
+    has_top : (i : ℕ) → suc i % n ≡ 0 → i < at + n → (i < at) ⊎ (at ≤ i) → bit_at (bit_or tops (2 ^ at)) i ≡ 1
+    has_top i whole less (inl lt) = let set : bit_at tops i ≡ 1 = (t.each i).1 (whole, lt) in omega (arith, both i, set, bit_at-lt (2 ^ at) i)
+    has_top i whole less (inr le) = elim (cases_lt at i) [
+      | inl lt ↦ absurd (apart i (i - suc at) (omega (arith, lt)) (omega (arith, lt, less)) whole)
+      | inr ge ↦ let e : at ≡ i = omega (arith, le, ge) in let set : bit_at (2 ^ at) i ≡ 1 = subst (λ (x : ℕ). bit_at (2 ^ at) x ≡ 1) e (bit_at-pow_same at) in omega (arith, both i, set, bit_at-lt tops i)
+    ]
+
+pub all_tops : (n at tops : ℕ) → 57 ≤ at → TopsBelow n at tops → AreTops n tops
+all_tops n at tops most t = record {
+  below = t.below;
+  each = λ i lt. (λ set. ((t.each i).0 set).0, λ whole. (t.each i).1 (whole, omega (arith, lt, most)));
+}
+
+-- ---- few numbers
+
+marks_of : (n tops ends : ℕ) → AreTops n tops → ends < 2 ^ 64 → Marks n 57 (bit_and ends tops) (bit_not w64 ends)
+marks_of n tops ends are fits = record {
+  one = λ i set.
+      let top : bit_at tops i ≡ 1 = omega (arith, both i, set, bit_at-lt tops i, bit_at-lt ends i) in
+      let end : bit_at ends i ≡ 1 = omega (arith, both i, set, bit_at-lt tops i, bit_at-lt ends i) in
+      let lt : i < 57 = within i top in
+      (lt, (are.each i lt).0 top, omega (arith, bit_at_not w64 ends i fits (omega (arith, lt)), end));
+  none = λ i lt whole clear.
+      let top : bit_at tops i ≡ 1 = (are.each i lt).1 whole in
+      omega (arith, bit_at_not w64 ends i fits (omega (arith, lt)), both i, clear, top, bit_at-lt ends i);
+}
+  where
+    both : (i : ℕ) → bit_at (bit_and ends tops) i ≡ min (bit_at ends i) (bit_at tops i)
+    both i = bit_at_and ends tops i
+
+    within : (i : ℕ) → bit_at tops i ≡ 1 → i < 57
+    within i top = below_top tops i 57 are.below top
+
+-- numbers at the front of a load's word
+pub has_word : (n count t ends : ℕ) (a : BufferedBits) → ends < 2 ^ 64 → Shows ends a.bits → EndsHere n 57 count t (bit_not w64 ends) → HasNumbers n count a (t + 1)
+has_word n count t ends a fits shows here =
+    let set : bit_at ends t ≡ 1 = omega (arith, bit_at_not w64 ends t fits (omega (arith, here.within)), here.off, bit_at-lt ends t) in
+    let next : suc t ≡ t + 1 = omega arith in
+    let rest : List Bool = drop (suc t) a.bits in
+    let all : a.bits ≡ bits_of (suc t) (bit_not w64 ends) ++ rest = sym (take-append-drop (suc t) a.bits) ∙ ap (λ (s : List Bool). s ++ rest) (sym (shows.front t set)) in
+    subst (HasNumbers n count a) next (shows.there t set, (here.reads.values, here.reads.many, ap (reading (repeat count (vbr n)) a.position) all ∙ here.reads.reads a.position rest))
+
+pub has_few : (n tops ends count others left len : ℕ) (a : BufferedBits) → 2 ≤ n → AreTops n tops → ends < 2 ^ 64 → Shows ends a.bits → count ≡ suc others → left ≡ cleared_by others (bit_and ends tops) → (left ≡ 0 → ⊥) → len ≡ trailing_zeros w64 left + 1 → HasNumbers n count a len × (len ≤ 57)
+has_few n tops ends count others left len a two are fits shows count_is left_is some len_is =
+    let mask : ℕ = bit_and ends tops in
+    let small : mask < 2 ^ 64 = omega (arith, and_le_l ends tops, fits) in
+    let clear : left ≡ clears others mask = left_is ∙ all_cleared others mask small in
+    let last = split_low left left (omega arith) (positive left some) in
+    let width : suc (n - 1) ≡ n = omega (arith, two) in
+    let here : EndsHere n 57 (suc others) last.0 (bit_not w64 ends) = subst (λ (m : ℕ). EndsHere m 57 (suc others) last.0 (bit_not w64 ends)) width (marked_reads others (n - 1) 57 mask (bit_not w64 ends) last.0 last.1 (omega (arith, two)) (omega arith) small (subst (λ (m : ℕ). Marks m 57 mask (bit_not w64 ends)) (sym width) (marks_of n tops ends are fits)) (sym clear ∙ last.2)) in
+    let place : last.0 + 1 ≡ len = omega (arith, len_is, lowest_is left last.0 last.1 (omega (arith, clear, clears_most others mask, small)) last.2) in
+    (subst (λ (k : ℕ). HasNumbers n k a len) (sym count_is) (subst (HasNumbers n (suc others) a) place (has_word n (suc others) last.0 ends a fits shows here)), omega (arith, place, here.within))
+  where
+    positive : (x : ℕ) → (x ≡ 0 → ⊥) → 0 < x
+    positive zero none = absurd (none refl)
+    positive (suc x) none = omega arith
+
+-- ---- bits at a place of bytes
+
+pub length_at : (at : ℕ) (bytes : List ℕ) → length (drop at (bits_of_bytes bytes)) ≡ 8 * length bytes - at
+length_at at bytes = omega (arith, length-drop at (bits_of_bytes bytes), length-bits_of_bytes bytes)
+
+pub eight_there : (at : ℕ) (bytes : List ℕ) → 64 ≤ length (drop at (bits_of_bytes bytes)) → 8 ≤ length (take (length bytes - at / 8) (drop (at / 8) bytes))
+eight_there at bytes there = omega (arith, ap length (left_after (at / 8) bytes), length-drop (at / 8) bytes, length_at at bytes, there)
+
+-- the bits after whole bytes, and a part of a byte
+behind_bytes : (at : ℕ) (bytes : List ℕ) → at ≤ 8 * length bytes → drop (at % 8) (bits_of_bytes (take (length bytes - at / 8) (drop (at / 8) bytes))) ≡ drop at (bits_of_bytes bytes)
+behind_bytes at bytes there =
+    let place : 8 * (at / 8) + at % 8 ≡ at = omega arith in
+    ap (λ (xs : List ℕ). drop (at % 8) (bits_of_bytes xs)) (sym (left_after (at / 8) bytes)) ∙ ap (drop (at % 8)) (bytes_dropped (at / 8) bytes (omega (arith, there))) ∙ drop_more (8 * (at / 8)) (at % 8) (bits_of_bytes bytes) ∙ ap (λ (k : ℕ). drop k (bits_of_bytes bytes)) place
+
+pub placed_new : (word held first more position : ℕ) (bytes : List ℕ) → more ≡ held → first + more ≤ position → bits_at (first + more) (position - (first + more)) bytes ≡ beyond (record { position = first; bits = bits_of held word ++ bits_of_bytes bytes }) (position - first)
+placed_new word held first more position bytes more_is le =
+    let place : first + more + (position - (first + more)) ≡ first + (position - first) = omega (arith, le) in
+    let count : position - first ≡ length (bits_of held word) + (position - (first + more)) = omega (arith, length-bits_of held word, more_is, le) in
+    parts_is (first + more + (position - (first + more))) (first + (position - first)) (drop (position - (first + more)) (bits_of_bytes bytes)) (drop (position - first) (bits_of held word ++ bits_of_bytes bytes)) place
+    (sym (ap (λ (k : ℕ). drop k (bits_of held word ++ bits_of_bytes bytes)) count ∙ drop-append-add (bits_of held word) (bits_of_bytes bytes) (position - (first + more))))
+
+-- ---- buffered bits at the place
+
+low_three : (at : ℕ) → bit_and at 7 ≡ at % 8
+low_three at = and_mask at 3
+
+pub part_there : (at : ℕ) (bytes : List ℕ) → at ≤ 8 * length bytes → bit_and at 7 ≤ length (bits_of_bytes (take (length bytes - at / 8) (drop (at / 8) bytes)))
+part_there at bytes there = omega (arith, low_three at, length-bits_of_bytes (take (length bytes - at / 8) (drop (at / 8) bytes)), ap length (left_after (at / 8) bytes), length-drop (at / 8) bytes, there)
+
+pub placed_from : (start at : ℕ) (bytes : List ℕ) (a b : BufferedBits) → at ≤ 8 * length bytes → at < 2 ^ 64 → a ≡ record { position = start + bit_and at 18446744073709551608; bits = bits_of_bytes (take (length bytes - at / 8) (drop (at / 8) bytes)) } → b ≡ beyond a (bit_and at 7) → b ≡ bits_at start at bytes
+placed_from start at bytes a b there fits a_is b_is =
+    let high : bit_and at 18446744073709551608 ≡ at / 8 * 8 = and_high_mask 64 3 (omega arith) at fits in
+    let place : start + bit_and at 18446744073709551608 + bit_and at 7 ≡ start + at = omega (arith, high, low_three at) in
+    let left : drop (bit_and at 7) (bits_of_bytes (take (length bytes - at / 8) (drop (at / 8) bytes))) ≡ drop at (bits_of_bytes bytes) = ap (λ (k : ℕ). drop k (bits_of_bytes (take (length bytes - at / 8) (drop (at / 8) bytes)))) (low_three at) ∙ behind_bytes at bytes there in
+    b_is ∙ ap (λ (x : BufferedBits). beyond x (bit_and at 7)) a_is ∙ parts_is (start + bit_and at 18446744073709551608 + bit_and at 7) (start + at) (drop (bit_and at 7) (bits_of_bytes (take (length bytes - at / 8) (drop (at / 8) bytes)))) (drop at (bits_of_bytes bytes)) place left
+
+-- ---- loads
+
+not_behind : (ends n i : ℕ) → ends < 2 ^ 64 → n + i < 64 → bit_at (bit_not w64 (ends / 2 ^ n)) i ≡ bit_at (bit_not w64 ends / 2 ^ n) i
+not_behind ends n i fits lt =
+    let small : ends / 2 ^ n < 2 ^ 64 = omega (arith, shr_le ends n, fits) in
+    bit_at_not w64 (ends / 2 ^ n) i small (omega (arith, lt)) ∙ ap (λ (b : ℕ). 1 - b) (bit_behind ends n i) ∙ sym (bit_at_not w64 ends (n + i) fits lt) ∙ sym (bit_behind (bit_not w64 ends) n i)
+
+front_after : (n more ends : ℕ) (s : List Bool) → ends < 2 ^ 64 → n + more ≤ 64 → bits_of (n + more) (bit_not w64 ends) ≡ take (n + more) s → bits_of more (bit_not w64 (ends / 2 ^ n)) ≡ take more (drop n s)
+front_after n more ends s fits few is =
+    same_bits more (bit_not w64 (ends / 2 ^ n)) (bit_not w64 ends / 2 ^ n) (λ i lt. not_behind ends n i fits (omega (arith, lt, few)))
+    ∙ sym (drop-bits_of n more (bit_not w64 ends)) ∙ ap (drop n) is ∙ drop-take n more s
+
+pub shows_after : (n ends : ℕ) (s : List Bool) → ends < 2 ^ 64 → Shows ends s → Shows (ends / 2 ^ n) (drop n s)
+shows_after n ends s fits shows = record {
+  there = λ i set. omega (arith, length-drop n s, shows.there (n + i) (here i set));
+  front = λ i set.
+      let next : suc (n + i) ≡ n + suc i = omega arith in
+      front_after n (suc i) ends s fits (omega (arith, below_top ends (n + i) 64 fits (here i set))) (subst (λ (k : ℕ). bits_of k (bit_not w64 ends) ≡ take k s) next (shows.front (n + i) (here i set)));
+}
+  where
+    here : (i : ℕ) → bit_at (ends / 2 ^ n) i ≡ 1 → bit_at ends (n + i) ≡ 1
+    here i set = sym (bit_behind ends n i) ∙ set
+
+not_not : (word : ℕ) → word < 2 ^ 64 → bit_not w64 (bit_not w64 word) ≡ word
+not_not word fits = omega (arith, fits)
+
+not_small : (word : ℕ) → bit_not w64 word < 2 ^ 64
+not_small word = omega arith
+
+word_front : (word : ℕ) (s : List Bool) → word < 2 ^ 64 → bits_of 64 word ≡ take 64 s → (n : ℕ) → n ≤ 64 → bits_of n (bit_not w64 (bit_not w64 word)) ≡ take n s
+word_front word s fits is n few = ap (bits_of n) (not_not word fits) ∙ sym (take-bits_of n 64 word few) ∙ ap (take n) is ∙ front_again n 64 s few
+
+shows_word : (word : ℕ) (s : List Bool) → word < 2 ^ 64 → 64 ≤ length s → bits_of 64 word ≡ take 64 s → Shows (bit_not w64 word) s
+shows_word word s fits there is = record {
+  there = λ i set. omega (arith, within i set, there);
+  front = λ i set. word_front word s fits is (suc i) (within i set);
+}
+  where
+    within : (i : ℕ) → bit_at (bit_not w64 word) i ≡ 1 → i < 64
+    within i set = below_top (bit_not w64 word) i 64 (not_small word) set
+
+-- eight bytes, from a place on
+record Eight (at word : ℕ) (bytes : List ℕ) (s : List Bool) : Type 0 where
+  pub there : 64 ≤ length s
+  pub seen : bits_of 64 word ≡ take 64 s
+  pub rest : drop (at % 8) s ≡ drop at (bits_of_bytes bytes)
+
+eight_at : (at word : ℕ) (bytes : List ℕ) → 64 ≤ length (drop at (bits_of_bytes bytes)) → bits_of 64 word ≡ bits_of_bytes (take 8 (take (length bytes - at / 8) (drop (at / 8) bytes))) → Eight at word bytes (bits_of_bytes (take (length bytes - at / 8) (drop (at / 8) bytes)))
+eight_at at word bytes there is =
+    let some = eight_there at bytes there in
+    record {
+      there = omega (arith, length-bits_of_bytes (take (length bytes - at / 8) (drop (at / 8) bytes)), some);
+      seen = is ∙ bits_of_bytes-take 8 (take (length bytes - at / 8) (drop (at / 8) bytes)) some;
+      rest = behind_bytes at bytes (omega (arith, length_at at bytes, there));
+    }
+
+pub ends_shown : (at word : ℕ) (bytes : List ℕ) → 64 ≤ length (drop at (bits_of_bytes bytes)) → word < 2 ^ 64 → bits_of 64 word ≡ bits_of_bytes (take 8 (take (length bytes - at / 8) (drop (at / 8) bytes))) → Shows (bit_not w64 word / 2 ^ bit_and at 7) (drop at (bits_of_bytes bytes))
+ends_shown at word bytes there fits is =
+    let s : List Bool = bits_of_bytes (take (length bytes - at / 8) (drop (at / 8) bytes)) in
+    let e = eight_at at word bytes there is in
+    subst (λ (k : ℕ). Shows (bit_not w64 word / 2 ^ k) (drop at (bits_of_bytes bytes))) (sym (low_three at))
+    (subst (Shows (bit_not w64 word / 2 ^ (at % 8))) e.rest (shows_after (at % 8) (bit_not w64 word) s (not_small word) (shows_word word s fits e.there e.seen)))
+
+pub ends_front : (at word : ℕ) (bytes : List ℕ) → 64 ≤ length (drop at (bits_of_bytes bytes)) → word < 2 ^ 64 → bits_of 64 word ≡ bits_of_bytes (take 8 (take (length bytes - at / 8) (drop (at / 8) bytes))) → (n : ℕ) → n ≤ 57 → bits_of n (bit_not w64 (bit_not w64 word / 2 ^ bit_and at 7)) ≡ take n (drop at (bits_of_bytes bytes))
+ends_front at word bytes there fits is n few =
+    let s : List Bool = bits_of_bytes (take (length bytes - at / 8) (drop (at / 8) bytes)) in
+    let e = eight_at at word bytes there is in
+    let some : at % 8 + n ≤ 64 = omega (arith, few) in
+    ap (λ (k : ℕ). bits_of n (bit_not w64 (bit_not w64 word / 2 ^ k))) (low_three at) ∙ front_after (at % 8) n (bit_not w64 word) s (not_small word) some (word_front word s fits e.seen (at % 8 + n) some) ∙ ap (take n) e.rest
+
+pub fixed_shown : (n ends value : ℕ) (a : BufferedBits) → n ≤ 32 → n ≤ length a.bits → bits_of n (bit_not w64 ends) ≡ take n a.bits → value ≡ bit_and (bit_not w64 ends) (1 * 2 ^ n % 2 ^ 64 - 1) → Reads (fixed n) a value (beyond a n)
+fixed_shown n ends value a few there is value_is =
+    let told : value ≡ number (take n a.bits) = value_is ∙ window_value n (bit_not w64 ends) n (take n a.bits) few (omega arith) is ∙ ap number (front_again n n a.bits (omega arith)) in
+    let whole : reading (part_of a.position n) a.position (a.bits ++ []) ≡ Ok (number (take n a.bits), a.position + n, drop n a.bits ++ []) = part_at n a.position a.position a.bits [] there in
+    fixed_reads n value a (beyond a n) (ap (reading (part_of a.position n) a.position) (sym (append-nil a.bits)) ∙ whole ∙ ap (λ (s : List Bool). Ok (number (take n a.bits), a.position + n, s)) (append-nil (drop n a.bits)) ∙ ap (λ (v : ℕ). Ok (v, a.position + n, drop n a.bits)) (sym told))
+
+-- ---- numbers, one after another
+
+pub has_none : (n : ℕ) (a : BufferedBits) → HasNumbers n 0 a 0
+has_none n a = let e : a.position ≡ a.position + 0 = omega arith in (omega arith, ([], refl, ap (λ (p : ℕ). Ok ([], p, a.bits)) e))
+
+pub has_one : (n value len : ℕ) (a : BufferedBits) → Reads (vbr n) a value (beyond a len) → HasNumbers n 1 a len
+has_one n value len a seen = (omega (arith, reads_there (vbr n) a value (beyond a len) seen), (value ∷ [], refl, rw seen refl))
+
+beyond_both : (a : BufferedBits) (m n : ℕ) → beyond (beyond a m) n ≡ beyond a (m + n)
+beyond_both a m n = parts_is (a.position + m + n) (a.position + (m + n)) (drop n (drop m a.bits)) (drop (m + n) a.bits) (omega arith) (drop_more m n a.bits)
+
+pub has_both : (n i j k x y z : ℕ) (a : BufferedBits) → k ≡ i + j → z ≡ x + y → HasNumbers n i a x → HasNumbers n j (beyond a x) y → HasNumbers n k a z
+has_both n i j k x y z a k_is z_is first later =
+    let all : z ≤ length a.bits = omega (arith, z_is, first.0, later.0, length-drop x a.bits) in
+    let end : Reads (repeat j (vbr n)) (beyond a x) later.1.0 (beyond a z) = subst (Reads (repeat j (vbr n)) (beyond a x) later.1.0) (beyond_both a x y ∙ ap (beyond a) (sym z_is)) later.1.2 in
+    (all, (first.1.0 ++ later.1.0, length-append first.1.0 later.1.0 ∙ omega (arith, first.1.1, later.1.1, k_is), repeat_both (vbr n) i j k a.position a.bits first.1.0 later.1.0 (a.position + x) (drop x a.bits) (a.position + z) (drop z a.bits) k_is first.1.2 end))
+
+pub has_begun : (count len ends : ℕ) (a : BufferedBits) → len ≤ 54 → len ≤ length a.bits → bits_of len (bit_not w64 ends) ≡ take len a.bits → Begins (bit_not w64 ends) count len → HasNumbers 6 count a len
+has_begun count len ends a few there is begins =
+    let word : ℕ = bit_not w64 ends in
+    let run = begun_front word count len a.position (drop len a.bits) few begins in
+    let front : take len (bits_of 54 word) ≡ take len a.bits = take-bits_of len 54 word few ∙ is in
+    let all : a.bits ≡ take len (bits_of 54 word) ++ drop len a.bits = sym (take-append-drop len a.bits) ∙ ap (λ (s : List Bool). s ++ drop len a.bits) (sym front) in
+    (there, (run.0, run.1, ap (reading (repeat count (vbr 6)) a.position) all ∙ run.2))
+
+pub has_sixes : (count len ends : ℕ) (a : BufferedBits) → ends < 2 ^ 64 → 0 < len → len ≤ 54 → Shows ends a.bits → bit_at (bit_not w64 ends) (len - 1) ≡ 0 → Begins (bit_not w64 ends) count len → HasNumbers 6 count a len
+has_sixes count len ends a fits some few shows off begins =
+    let set : bit_at ends (len - 1) ≡ 1 = omega (arith, bit_at_not w64 ends (len - 1) fits (omega (arith, few)), off, bit_at-lt ends (len - 1)) in
+    let next : suc (len - 1) ≡ len = omega (arith, some) in
+    has_begun count len ends a few (omega (arith, shows.there (len - 1) set)) (subst (λ (k : ℕ). bits_of k (bit_not w64 ends) ≡ take k a.bits) next (shows.front (len - 1) set)) begins
+
+-- ---- a loop over numbers
+
+-- some more numbers were passed
+pub further : (n count left some len start from here to s t : ℕ) (bytes others more : List ℕ) → left ≤ count → some ≤ left → s ≡ start → t ≡ s → from ≤ here → bits_at s here others ≡ beyond (bits_at start from bytes) (here - from) → bits_at t to more ≡ beyond (bits_at s here others) len
+    → HasNumbers n (count - left) (bits_at start from bytes) (here - from) → HasNumbers n some (bits_at s here others) len → (from ≤ to) × (bits_at t to more ≡ beyond (bits_at start from bytes) (to - from)) × HasNumbers n (count - (left - some)) (bits_at start from bytes) (to - from)
+further n count left some len start from here to s t bytes others more few enough s_is t_is on was is first later =
+    let a : BufferedBits = bits_at start from bytes in
+    let place : to ≡ here + len = omega (arith, ap (λ (x : BufferedBits). x.position) is, s_is, t_is) in
+    let all : to - from ≡ here - from + len = omega (arith, place, on) in (
+      omega (arith, place, on),
+      is ∙ ap (λ (x : BufferedBits). beyond x len) was ∙ beyond_both a (here - from) len ∙ ap (beyond a) (sym all),
+      has_both n (count - left) some (count - (left - some)) (here - from) len (to - from) a (omega (arith, few, enough)) all first (subst (λ (x : BufferedBits). HasNumbers n some x len) was later),
+    )
+
+-- ---- a short number in chunks of six bits
+
+set_bit : (x k : ℕ) → (bit_and x (2 ^ k) ≡ 0 → ⊥) → bit_at x k ≡ 1
+set_bit x k some = one (bit_at x k) (bit_at-lt x k) (λ none. some (and_pow x k ∙ none))
+  where
+    one : (b : ℕ) → b < 2 → (b * 2 ^ k ≡ 0 → ⊥) → b ≡ 1
+    one zero lt some = absurd (some (omega arith))
+    one (suc zero) lt some = refl
+    one (suc (suc b)) lt some = absurd (omega (arith, lt))
+
+clear_bit : (x k : ℕ) → bit_and x (2 ^ k) ≡ 0 → bit_at x k ≡ 0
+clear_bit x k none = off (bit_at x k) (sym (and_pow x k) ∙ none)
+  where
+    off : (b : ℕ) → b * 2 ^ k ≡ 0 → b ≡ 0
+    off zero none = refl
+    off (suc b) none = absurd (omega (arith, none, pow_pos k))
+
+pub six_there : (k ends : ℕ) (s : List Bool) → Shows ends s → (bit_and ends (2 ^ k) ≡ 0 → ⊥) → suc k ≤ length s
+six_there k ends s shows some = omega (arith, shows.there k (set_bit ends k some))
+
+six_reads : (k ends : ℕ) (a : BufferedBits) → ends < 2 ^ 64 → k ≤ 8 → Shows ends a.bits → bit_at ends (k * 6 + 5) ≡ 1 → ((j : ℕ) → j < k → bit_at ends (j * 6 + 5) ≡ 0) → Reads (vbr 6) a (payload_number 5 (suc k) (bit_not w64 ends)) (beyond a (suc k * 6))
+six_reads k ends a fits few shows set clear =
+    let word : ℕ = bit_not w64 ends in
+    let bits : ℕ = suc k * 6 in
+    let off : bit_at word (k * 6 + 5) ≡ 0 = omega (arith, bit_at_not w64 ends (k * 6 + 5) fits (omega (arith, few)), set) in
+    let on : (j : ℕ) → j < k → bit_at word (j * 6 + 5) ≡ 1 = λ j lt. omega (arith, bit_at_not w64 ends (j * 6 + 5) fits (omega (arith, few, lt)), clear j lt) in
+    let one = chunks_read 5 k word 0 a.position (drop bits a.bits) (omega arith) (omega (arith, few)) (ends_chunks 5 k word off on) in
+    let next : suc (k * 6 + 5) ≡ suc k * 6 = omega arith in
+    let front : bits_of bits word ≡ take bits a.bits = subst (λ (n : ℕ). bits_of n word ≡ take n a.bits) next (shows.front (k * 6 + 5) set) in
+    let whole : bits ≡ bits + 0 = omega arith in
+    let all : a.bits ≡ bits_of (bits + 0) word ++ drop bits a.bits = sym (take-append-drop bits a.bits) ∙ ap (λ (s : List Bool). s ++ drop bits a.bits) (sym front ∙ ap (λ (n : ℕ). bits_of n word) whole) in
+    ap (reading (vbr 6) a.position) all ∙ one
+
+pub six_one : (ends : ℕ) (a : BufferedBits) → ends < 2 ^ 64 → Shows ends a.bits → (bit_and ends 32 ≡ 0 → ⊥) → Reads (vbr 6) a (bit_and (bit_not w64 ends) 31) (beyond a 6)
+six_one ends a fits shows some =
+    let value : payload_number 5 1 (bit_not w64 ends) ≡ bit_and (bit_not w64 ends) 31 = omega (arith, and_mask (bit_not w64 ends) 5) in
+    subst (λ (v : ℕ). Reads (vbr 6) a v (beyond a 6)) value (six_reads 0 ends a fits (omega arith) shows (set_bit ends 5 some) (λ j lt. absurd (omega (arith, lt))))
+
+or_above : (low high k : ℕ) → low < 2 ^ k → bit_or low (high * 2 ^ k) ≡ low + high * 2 ^ k
+or_above low high k lt = omega (arith, or_comm low (high * 2 ^ k), or_shifted high k low lt)
+
+two_payloads : (word : ℕ) → bit_or (bit_and word 31) (bit_and (word / 2) 992) ≡ word % 32 + (word / 64 % 32) * 32
+two_payloads word =
+    let low : bit_and word 31 ≡ word % 32 = and_mask word 5 in
+    let high : bit_and (word / 2) 992 ≡ (word / 64 % 32) * 32 = and_high (word / 2) 5 5 ∙ deeper word in
+    ap (λ (x : ℕ). bit_or x (bit_and (word / 2) 992)) low ∙ ap (bit_or (word % 32)) high ∙ or_above (word % 32) (word / 64 % 32) 5 (omega arith)
+  where
+    deeper : (word : ℕ) → (word / 2 / 32 % 32) * 32 ≡ (word / 64 % 32) * 32
+    deeper word = omega arith
+
+three_payloads : (word : ℕ) → bit_or (bit_or (bit_and word 31) (bit_and (word / 2) 992)) (bit_and (word / 4) 31744) ≡ word % 32 + (word / 64 % 32) * 32 + (word / 4096 % 32) * 1024
+three_payloads word =
+    let high : bit_and (word / 4) 31744 ≡ (word / 4096 % 32) * 1024 = and_high (word / 4) 5 10 ∙ deeper word in
+    ap (λ (x : ℕ). bit_or x (bit_and (word / 4) 31744)) (two_payloads word) ∙ ap (bit_or (word % 32 + (word / 64 % 32) * 32)) high ∙ or_above (word % 32 + (word / 64 % 32) * 32) (word / 4096 % 32) 10 (omega arith)
+  where
+    deeper : (word : ℕ) → (word / 4 / 1024 % 32) * 1024 ≡ (word / 4096 % 32) * 1024
+    deeper word = omega arith
+
+pub six_two : (ends : ℕ) (a : BufferedBits) → ends < 2 ^ 64 → Shows ends a.bits → bit_and ends 32 ≡ 0 → (bit_and ends 2048 ≡ 0 → ⊥) → Reads (vbr 6) a (bit_or (bit_and (bit_not w64 ends) 31) (bit_and (bit_not w64 ends / 2) 992)) (beyond a 12)
+six_two ends a fits shows first some =
+    let word : ℕ = bit_not w64 ends in
+    subst (λ (v : ℕ). Reads (vbr 6) a v (beyond a 12)) (value word ∙ sym (two_payloads word)) (six_reads 1 ends a fits (omega arith) shows (set_bit ends 11 some) on)
+  where
+    value : (word : ℕ) → payload_number 5 2 word ≡ word % 32 + (word / 64 % 32) * 32
+    value word = omega arith
+
+    on : (j : ℕ) → j < 1 → bit_at ends (j * 6 + 5) ≡ 0
+    on zero lt = clear_bit ends 5 first
+    on (suc j) lt = absurd (omega (arith, lt))
+
+pub six_three : (ends : ℕ) (a : BufferedBits) → ends < 2 ^ 64 → Shows ends a.bits → bit_and ends 32 ≡ 0 → bit_and ends 2048 ≡ 0 → (bit_and ends 131072 ≡ 0 → ⊥)
+    → Reads (vbr 6) a (bit_or (bit_or (bit_and (bit_not w64 ends) 31) (bit_and (bit_not w64 ends / 2) 992)) (bit_and (bit_not w64 ends / 4) 31744)) (beyond a 18)
+six_three ends a fits shows first second some =
+    let word : ℕ = bit_not w64 ends in
+    subst (λ (v : ℕ). Reads (vbr 6) a v (beyond a 18)) (value word ∙ sym (three_payloads word)) (six_reads 2 ends a fits (omega arith) shows (set_bit ends 17 some) on)
+  where
+    value : (word : ℕ) → payload_number 5 3 word ≡ word % 32 + (word / 64 % 32) * 32 + (word / 4096 % 32) * 1024
+    value word = omega arith
+
+    on : (j : ℕ) → j < 2 → bit_at ends (j * 6 + 5) ≡ 0
+    on zero lt = clear_bit ends 5 first
+    on (suc zero) lt = clear_bit ends 11 second
+    on (suc (suc j)) lt = absurd (omega (arith, lt))

@@ -1,0 +1,170 @@
+//! Placed bits: where they are, loads of them, and how long numbers in them are.
+
+ghost use Rattle.std.specs.Prelude.{ℕ, ◌≡◌, ◌+◌, ◌-◌, ◌<◌, ◌≤◌, length, take, true, IfSome};
+ghost use Rattle.std.specs.Int.{w64, bit_not};
+ghost use Rattle.bit_grammar.specs.Bits.{bits_of};
+ghost use Rattle.bit_grammar.specs.Fields.{fixed};
+ghost use Rattle.bit_fields.specs.Buffered.{Reads, beyond};
+ghost use Rattle.bit_fields.specs.BufferedParts.{bits_of_parts, AreParts};
+ghost use Rattle.bit_fields.specs.Placed.{HasNumbers, Shows};
+ghost use Rattle.bit_fields.specs.PlacedView.{loaded, placed};
+
+use crate::buffered::{Buffered, BufferedParts};
+use crate::placed::{ChunkTops, LoadedBits, PlacedBits};
+use crate::six_bits::numbers_in;
+use crate::width::ChunkWidth;
+use crate::word::eight_of;
+
+impl<'a> PlacedBits<'a> {
+    /// Buffered bits from a position on, if they are not before the bytes.
+    #[inline(always)]
+    pub fn new(buffered_parts: BufferedParts<'a>, position: u64) -> Option<PlacedBits<'a>>
+        requires lawful { AreParts buffered_parts }
+        requires most { position ≤ (bits_of_parts buffered_parts).position
+            + length (bits_of_parts buffered_parts).bits }
+        ensures { IfSome result (λ found. (buffered_parts.entry.position ≤ position)
+            × (placed found ≡ beyond (bits_of_parts buffered_parts.entry)
+            (position - buffered_parts.entry.position))) }
+    {
+        let start = buffered_parts.position + u64::from(buffered_parts.held);
+        if position < start {
+            return None;
+        }
+        Some(PlacedBits {
+            bytes: buffered_parts.bytes,
+            start,
+            at: position - start,
+        })
+    }
+
+    /// The position of the first bit.
+    #[inline(always)]
+    pub fn position(self) -> u64
+        ensures { result ≡ (placed self.entry).position }
+    {
+        self.start + self.at
+    }
+
+    /// Whether n bits are there.
+    #[inline(always)]
+    pub fn has(self, n: u64) -> bool
+        ensures { result ≡ true → n ≤ length (placed self.entry).bits }
+    {
+        8 * self.bytes.len() as u64 - self.at >= n
+    }
+
+    /// The bits after the first n.
+    #[inline(always)]
+    pub fn after(self, n: u64) -> PlacedBits<'a>
+        requires { n ≤ length (placed self).bits }
+        ensures rest { placed result ≡ beyond (placed self.entry) n }
+        ensures start { result.start ≡ self.entry.start }
+    {
+        PlacedBits {
+            bytes: self.bytes,
+            start: self.start,
+            at: self.at + n,
+        }
+    }
+
+    /// The complement of the next 57 bits or more, and zeros behind them.
+    #[inline(always)]
+    fn ends(self) -> u64
+        requires { 64 ≤ length (placed self).bits }
+        ensures shows { Shows result (placed self.entry).bits }
+        ensures front { (n : ℕ) → n ≤ 57
+            → bits_of n (bit_not w64 result) ≡ take n (placed self.entry).bits }
+    {
+        let rest = &self.bytes[(self.at >> 3) as usize..];
+        !eight_of(rest) >> (self.at & 7)
+    }
+
+    /// The bits and a load of the first ones.
+    #[inline(always)]
+    pub fn load(self) -> LoadedBits<'a>
+        requires { 64 ≤ length (placed self).bits }
+        ensures { loaded result ≡ placed self.entry }
+    {
+        LoadedBits {
+            ends: self.ends(),
+            bits: self,
+        }
+    }
+
+    /// The first n bits as a number, of none if n is 0.
+    #[inline(always)]
+    pub fn fixed(self, n: u32) -> u64
+        requires few { n ≤ 32 }
+        requires there { 64 ≤ length (placed self).bits }
+        ensures { Reads (fixed n) (placed self.entry) result (beyond (placed self.entry) n) }
+    {
+        !self.ends() & ((1 << n) - 1)
+    }
+
+    /// The length of a number in chunks of n bits that is long, if it is there.
+    #[cold]
+    #[inline(never)]
+    fn long(self, n: u32) -> Option<u64>
+        requires least { 2 ≤ n }
+        requires most { n ≤ 32 }
+        ensures has { IfSome result (λ len. HasNumbers n 1 (placed self.entry) len) }
+        ensures some { IfSome result (λ len. 0 < len) }
+    {
+        let buffered = Buffered::of(&self.bytes[(self.at >> 3) as usize..], self.start + (self.at & !7));
+        let mut buffered = buffered;
+        buffered.skip(self.at & 7);
+        let (_, bits) = buffered.far_vbr(ChunkWidth { bits: n });
+        if bits == 0 {
+            return None;
+        }
+        Some(bits)
+    }
+
+    /// The length of this many numbers in chunks of six bits, if they are there.
+    #[inline(never)]
+    pub fn all_sixes(self, count: u64) -> Option<u64>
+        ensures { IfSome result (λ len. HasNumbers 6 count (placed self.entry) len) }
+    {
+        let mut bits = self;
+        let mut left = count;
+        while left > 0 {
+            if !bits.has(64) {
+                return None;
+            }
+            let (some, len) = numbers_in(!bits.ends(), left.min(32));
+            if some > 0 {
+                left -= some;
+                bits = bits.after(u64::from(len));
+            } else {
+                left -= 1;
+                bits = bits.after(bits.long(6)?);
+            }
+        }
+        Some(bits.at - self.at)
+    }
+
+    /// The same of numbers in chunks of any width, if so many bits more are there.
+    #[inline(never)]
+    pub fn all_of(self, chunks: ChunkTops, count: u64, more: u64) -> Option<u64>
+        ensures has { IfSome result (λ len. HasNumbers chunks.bits count (placed self.entry) len) }
+        ensures more { IfSome result (λ len. len + more ≤ length (placed self.entry).bits) }
+    {
+        let mut bits = self;
+        let mut left = count;
+        while left > 0 {
+            if !bits.has(64) {
+                return None;
+            }
+            let len = match bits.load().few(chunks, 1) {
+                Some(len) => len,
+                None => bits.long(chunks.bits)?,
+            };
+            left -= 1;
+            bits = bits.after(len);
+        }
+        if !bits.has(more) {
+            return None;
+        }
+        Some(bits.at - self.at)
+    }
+}
