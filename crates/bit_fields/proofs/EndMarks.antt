@@ -1,6 +1,6 @@
 -- Numbers in chunks of n bits of a word, the last bits of which another word marks.
-use Rattle.std.proofs.Common.{◌≡◌, ℕ, zero, suc, ◌+◌, ◌*◌, ◌-◌, ◌/◌, ◌%◌, ◌^◌, ◌<◌, ◌≤◌, Bool, List, [], ◌∷◌, ◌++◌, length, drop, Ok, refl, sym, ap, ◌∙◌, subst, arith, bit_and, inl, inr}
-use Rattle.std.specs.Int.{w64, bit_at, trailing_zeros}
+use Rattle.std.proofs.Common.{◌≡◌, ℕ, zero, suc, ◌+◌, ◌*◌, ◌-◌, ◌/◌, ◌%◌, ◌^◌, ◌<◌, ◌≤◌, Bool, List, [], ◌∷◌, ◌++◌, length, Ok, refl, sym, ap, ◌∙◌, subst, arith, bit_and, inl, inr}
+use Rattle.std.specs.Int.{bit_at}
 use Rattle.std.specs.Int.Bits.{and_self}
 use Rattle.std.proofs.lemmas.Bool.{cases_lt}
 use Rattle.std.proofs.lemmas.Nat.{shr-shr, shr_high, pow_pos, pow-add, and_block, and_le_l, div-add-mod', mul-le}

@@ -34,7 +34,7 @@ impl<'a> BufferedParts<'a> {
     /// The position after the bits in the word. What is read does not depend on it.
     #[inline(always)]
     pub fn loaded(&self) -> u64 {
-        self.position + u64::from(self.held)
+        self.position.wrapping_add(u64::from(self.held))
     }
 
     /// Whether this number is in the first n bits; `false` also if fewer are in the word. Only speed depends on it.

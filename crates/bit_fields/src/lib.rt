@@ -36,6 +36,8 @@ mod packed;
 #[cfg(test)]
 mod packed_tests;
 mod placed;
+#[cfg(test)]
+mod placed_tests;
 mod plain;
 #[cfg(test)]
 mod plain_tests;

@@ -110,7 +110,10 @@ impl<'a> PlacedBits<'a> {
         ensures has { IfSome result (λ len. HasNumbers n 1 (placed self.entry) len) }
         ensures some { IfSome result (λ len. 0 < len) }
     {
-        let buffered = Buffered::of(&self.bytes[(self.at >> 3) as usize..], self.start + (self.at & !7));
+        let buffered = Buffered::of(
+            &self.bytes[(self.at >> 3) as usize..],
+            self.start + (self.at & !7),
+        );
         let mut buffered = buffered;
         buffered.skip(self.at & 7);
         let (_, bits) = buffered.far_vbr(ChunkWidth { bits: n });

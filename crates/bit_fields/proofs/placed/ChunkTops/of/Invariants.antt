@@ -1,4 +1,4 @@
-use Rattle.std.proofs.Common.{◌-◌, ◌+◌, ◌<◌, ◌≤◌}
+use Rattle.std.proofs.Common.{◌-◌, ◌+◌, ◌<◌}
 use Rattle.bit_fields.proofs.Placing.{TopsBelow}
 use Rattle.bit_fields.proofs.placed.ChunkTops.of.Given as goal
 

@@ -1,6 +1,6 @@
 use Rattle.std.proofs.Common.{sym, subst}
 use Rattle.bit_grammar.specs.Fields.{vbr}
-use Rattle.bit_fields.specs.Buffered.{BufferedBits, Reads}
+use Rattle.bit_fields.specs.Buffered.{Reads}
 use Rattle.bit_fields.specs.PlacedView.{loaded}
 use Rattle.bit_fields.proofs.Placing.{six_there, six_one, six_two, six_three}
 use Rattle.bit_fields.proofs.placed.LoadedBits.short_six.Goals as goal

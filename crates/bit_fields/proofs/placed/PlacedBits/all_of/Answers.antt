@@ -13,5 +13,5 @@ loop-left-preserved c =
       | in-None+in_ok-len-in-None w ↦ subst (HasNumbers c.args.chunks.bits 1 (placed c.loop-left.bits)) (sym w.len-is) w.in_ok-len-in-None.ensures.has
     ] in
     let f = further c.args.chunks.bits c.args.count c.loop-left.left 1 c.match-few.len c.args.self.start c.args.self.at c.loop-left.bits.at c.after-bits.result.at c.loop-left.bits.start c.after-bits.result.start c.args.self.bytes.now c.loop-left.bits.bytes.now c.after-bits.result.bytes.now
-        c.loop-left.invariant.few (omega arith) c.loop-left.invariant.start c.after-bits.ensures.start c.loop-left.invariant.on c.loop-left.invariant.here c.after-bits.ensures.rest c.loop-left.invariant.has has in
+    c.loop-left.invariant.few (omega arith) c.loop-left.invariant.start c.after-bits.ensures.start c.loop-left.invariant.on c.loop-left.invariant.here c.after-bits.ensures.rest c.loop-left.invariant.has has in
     record { few = omega arith; start = c.after-bits.ensures.start ∙ c.loop-left.invariant.start; on = f.0; here = f.1; has = f.2 }
