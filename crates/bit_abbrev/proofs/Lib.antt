@@ -8,6 +8,7 @@ pub mod Records
 mod Several
 pub mod Covering
 pub mod Grouping
+pub mod PlanParts
 pub mod PassedRecords
 pub mod Buffered
 pub mod Missing

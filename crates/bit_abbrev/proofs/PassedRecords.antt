@@ -212,9 +212,10 @@ one_before a v b seen = has_one 6 v (b.position - a.position) a (subst (Reads (v
 pub two_before : (a : BufferedBits) (v : ℕ) (b : BufferedBits) (w : ℕ) (c : BufferedBits) → Reads (vbr 6) a v b → Reads (vbr 6) b w c → HasNumbers 6 2 a (c.position - a.position) × (c ≡ beyond a (c.position - a.position))
 two_before a v b w c first second =
     let all : c.position - a.position ≡ b.position - a.position + (c.position - b.position) = omega (arith, reads_forward (vbr 6) a v b first, reads_forward (vbr 6) b w c second) in
-    let here = left_is (vbr 6) a v b first in
-    (has_both 6 1 1 2 (b.position - a.position) (c.position - b.position) (c.position - a.position) a refl all (one_before a v b first) (subst (λ (x : BufferedBits). HasNumbers 6 1 x (c.position - b.position)) here (one_before b w c second)),
-      left_is (vbr 6) b w c second ∙ ap (λ (x : BufferedBits). beyond x (c.position - b.position)) here ∙ beyond_both a (b.position - a.position) (c.position - b.position) ∙ ap (beyond a) (sym all))
+    let here = left_is (vbr 6) a v b first in (
+      has_both 6 1 1 2 (b.position - a.position) (c.position - b.position) (c.position - a.position) a refl all (one_before a v b first) (subst (λ (x : BufferedBits). HasNumbers 6 1 x (c.position - b.position)) here (one_before b w c second)),
+      left_is (vbr 6) b w c second ∙ ap (λ (x : BufferedBits). beyond x (c.position - b.position)) here ∙ beyond_both a (b.position - a.position) (c.position - b.position) ∙ ap (beyond a) (sym all),
+    )
 
 -- ---- the array of a plan
 

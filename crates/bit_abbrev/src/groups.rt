@@ -1,6 +1,6 @@
 //! The plans of the first definitions for some block ids.
 
-ghost use Rattle.std.specs.Prelude.{◌≡◌, ◌≤◌, [], Some, length, slice_get, IfSome, OnOk, OnErr};
+ghost use Rattle.std.specs.Prelude.{◌≡◌, ◌<◌, ◌≤◌, [], Some, length, slice_get, IfSome, OnOk, OnErr};
 ghost use Rattle.std.specs.List.{AllByRecursion};
 ghost use Rattle.bit_grammar.specs.FormatDefinition.{HasLawfulValue};
 ghost use Rattle.bit_grammar.specs.Terms.{Table, defined_at};
@@ -43,7 +43,8 @@ impl PlanGroups {
 
     /// The place of the plans for a block id, if there are any.
     pub(crate) fn place_of(&self, id: u32) -> Option<usize>
-        ensures { IfSome result (λ place. (group : PlanGroup)
+        ensures within { IfSome result (λ place. place < length self.now.groups.items) }
+        ensures found { IfSome result (λ place. (group : PlanGroup)
             × (slice_get self.now.groups.items place ≡ Some group) × (group.id ≡ id)) }
     {
         for (place, group) in self.groups.iter().enumerate() {

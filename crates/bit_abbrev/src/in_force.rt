@@ -51,10 +51,18 @@ impl SharedInfo {
     {
         let own = Vec::new(alloc);
         let Some(table) = &self.table else {
-            return Ok(InForce { shared: None, group: usize::MAX, own });
+            return Ok(InForce {
+                shared: None,
+                group: usize::MAX,
+                own,
+            });
         };
         if table.for_block(id).is_empty() {
-            return Ok(InForce { shared: None, group: usize::MAX, own });
+            return Ok(InForce {
+                shared: None,
+                group: usize::MAX,
+                own,
+            });
         }
         Ok(InForce {
             shared: Some((table.clone()?, id)),

@@ -49,10 +49,39 @@ fn same(passed: Passed, code: u64, values: &ValueCount, len: u64) -> bool {
 /// The operands of some definitions: fields of each kind, numbers that share a pass and numbers that do not, and arrays of each
 /// element.
 static DEFINITIONS: [&[Op]; 10] = [
-    &[Op::Literal(3), Op::Literal(9), Op::Fixed(1), Op::Fixed(32), Op::Char6],
-    &[Op::Literal(4), Op::Vbr(6), Op::Vbr(6), Op::Vbr(6), Op::Vbr(6), Op::Vbr(6)],
-    &[Op::Literal(5), Op::Vbr(8), Op::Vbr(6), Op::Fixed(4), Op::Vbr(6), Op::Vbr(8), Op::Vbr(8)],
-    &[Op::Literal(6), Op::Fixed(32), Op::Fixed(31), Op::Vbr(2), Op::Vbr(32), Op::Vbr(0), Op::Fixed(3)],
+    &[
+        Op::Literal(3),
+        Op::Literal(9),
+        Op::Fixed(1),
+        Op::Fixed(32),
+        Op::Char6,
+    ],
+    &[
+        Op::Literal(4),
+        Op::Vbr(6),
+        Op::Vbr(6),
+        Op::Vbr(6),
+        Op::Vbr(6),
+        Op::Vbr(6),
+    ],
+    &[
+        Op::Literal(5),
+        Op::Vbr(8),
+        Op::Vbr(6),
+        Op::Fixed(4),
+        Op::Vbr(6),
+        Op::Vbr(8),
+        Op::Vbr(8),
+    ],
+    &[
+        Op::Literal(6),
+        Op::Fixed(32),
+        Op::Fixed(31),
+        Op::Vbr(2),
+        Op::Vbr(32),
+        Op::Vbr(0),
+        Op::Fixed(3),
+    ],
     &[Op::Literal(7), Op::Vbr(6), Op::Array, Op::Vbr(6)],
     &[Op::Literal(8), Op::Fixed(7), Op::Array, Op::Char6],
     &[Op::Literal(9), Op::Array, Op::Fixed(1)],
@@ -76,9 +105,18 @@ fn is_passed(rt: &impl Abort, abbrev: &Abbrev, bytes: &[u8], skipped: u64) -> bo
     };
     let first = buffered.position();
     let mut values = ValueCount::new();
-    let read = read_record::<(), Buffered, ValueCount>(&mut buffered, abbrev, first, 1000, &mut values);
+    let read = read_record::<(), Buffered, ValueCount>(
+        &mut buffered,
+        abbrev,
+        first,
+        1000,
+        &mut values,
+    );
     let code = read.ok().expect(rt, "a record");
-    assert!(rt; same(passed, code, &values, buffered.position() - first), "{skipped}");
+    assert!(rt;
+        same(passed, code, &values, buffered.position() - first),
+        "{skipped}"
+    );
     true
 }
 
@@ -96,7 +134,10 @@ fn is_plain_passed(rt: &impl Abort, bytes: &[u8], skipped: u64) -> bool {
     let mut values = ValueCount::new();
     let read = read_plain::<(), Buffered, ValueCount>(&mut buffered, 100_000, &mut values);
     let code = read.ok().expect(rt, "a record");
-    assert!(rt; same(passed, code, &values, buffered.position() - first), "{skipped}");
+    assert!(rt;
+        same(passed, code, &values, buffered.position() - first),
+        "{skipped}"
+    );
     true
 }
 

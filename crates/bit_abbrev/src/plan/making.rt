@@ -83,7 +83,10 @@ impl Plan {
         requires { AllByRecursion HasLawfulValue ops.now }
         ensures { IsPlan ops.now result }
     {
-        let [Op::Literal(code), others @ ..] = ops else {
+        let [first, others @ ..] = ops else {
+            return odd();
+        };
+        let Op::Literal(code) = *first else {
             return odd();
         };
         let (passes, count) = front(others);
@@ -91,7 +94,7 @@ impl Plan {
             return odd();
         }
         let plan = Plan {
-            code: *code,
+            code,
             singles: count as u32,
             passes,
             ..odd()

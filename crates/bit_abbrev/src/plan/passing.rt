@@ -60,12 +60,7 @@ impl Passes {
 
 /// The length of numbers in chunks of six bits and of so many before them, with which the first bits begin.
 #[inline(always)]
-fn sixes_len(
-    first: LoadedBits<'_>,
-    numbers: LoadedBits<'_>,
-    count: u64,
-    before: u64,
-) -> Option<u64>
+fn sixes_len(first: LoadedBits<'_>, numbers: LoadedBits<'_>, count: u64, before: u64) -> Option<u64>
     requires some { 0 < before }
     requires few { before ≤ 2 }
     requires numbers { HasNumbers 6 before (loaded first)
