@@ -6,5 +6,9 @@ pub mod Operands
 pub mod Shapes
 pub mod Records
 mod Several
+pub mod Covering
+pub mod Grouping
+pub mod PlanParts
+pub mod PassedRecords
 pub mod Buffered
 pub mod Missing

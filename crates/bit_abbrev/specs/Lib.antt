@@ -1,5 +1,7 @@
 pub mod Bits
 pub mod Breaks
+pub mod Groups
 pub mod Operands
+pub mod Plans
 pub mod Table
 pub mod Values

@@ -1,9 +1,9 @@
 -- How a record is passed over: bits to skip, and numbers of which only the ends are found.
-use Rattle.std.specs.Prelude.{◌≡◌, ◌≢◌, ℕ, ◌+◌, ◌≤◌, ⊥, List, [], ◌∷◌, ◌++◌, length, take}
+use Rattle.std.specs.Prelude.{◌≡◌, ◌≢◌, ℕ, ◌+◌, ◌≤◌, List, [], ◌∷◌, ◌++◌, length, take, Some, slice_get}
 use Rattle.bit_grammar.specs.declared.op.Op.{Op}
-use Rattle.bit_grammar.specs.declared.op.Op.TheVariants.{Literal, Fixed, Vbr, Array, Char6}
-use Rattle.bit_grammar.specs.Grammar.{Grammar, repeat}
-use Rattle.bit_grammar.specs.Record.{abbreviated, unabbreviated, values_of}
+use Rattle.bit_grammar.specs.declared.op.Op.TheVariants.{Literal, Fixed, Vbr, Array, Char6, Blob}
+use Rattle.bit_grammar.specs.Grammar.{Grammar}
+use Rattle.bit_grammar.specs.Record.{scalar, values_of}
 use Rattle.bit_grammar.specs.Terms.{CodeAndValues}
 use Rattle.bit_fields.specs.Buffered.{BufferedBits, Reads, beyond}
 use Rattle.bit_fields.specs.Placed.{HasNumbers}
@@ -14,17 +14,19 @@ use Rattle.bit_abbrev.specs.declared.plan.Plan.{Plan}
 use Rattle.bit_abbrev.specs.declared.plan.Rest.{Rest}
 use Rattle.bit_abbrev.specs.declared.plan.Rest.TheVariants as rest
 
--- what passes go over, one after another, takes so many bits
+-- what passes go over comes first, one after another, and takes so many bits
 abbrev pub HasPasses : List Pass → BufferedBits → (len : ℕ) → Type 0
 HasPasses [] a len = len ≡ 0
 HasPasses (pass ∷ others) a len = (first more : ℕ) × (len ≡ pass.skip + first + more)
     × HasNumbers pass.chunks.bits pass.count (beyond a pass.skip) first
     × HasPasses others (beyond a (pass.skip + first)) more
 
--- so many bits are one value of each operand
+-- one value of each operand comes first, and all take so many bits
 abbrev pub HasValues : List Op → BufferedBits → (len : ℕ) → Type 0
-HasValues ops a len = (len ≤ length a.bits) × ((values : List ℕ) × (length values ≡ length ops)
-    × Reads (values_of 0 ops) a values (beyond a len))
+HasValues [] a len = len ≡ 0
+HasValues (op ∷ ops) a len = (value first more : ℕ) × (op ≢ Array) × (op ≢ Blob)
+    × (len ≡ first + more) × Reads (scalar op) a value (beyond a first)
+    × HasValues ops (beyond a first) more
 
 -- the passes and the bits after them are one value of each operand
 abbrev pub Covers : List Op → Passes → Type 0
@@ -39,16 +41,22 @@ TakesBits (Vbr width) bits = (width ≡ 0) × (bits ≡ 0)
 TakesBits Char6 bits = bits ≡ 6
 TakesBits _ bits = ⊥
 
--- what comes after the single operands
+-- what comes after the single operands, if the plan passes over anything
 abbrev pub HasRest : Plan → Rest → List Op → Type 0
 HasRest plan rest.Nothing tail = tail ≡ []
 HasRest plan rest.Sixes tail = tail ≡ Array ∷ Vbr 6 ∷ []
 HasRest plan rest.Fields tail = (element : Op) × (tail ≡ Array ∷ element ∷ [])
-    × TakesBits element plan.width × (plan.width ≢ 0)
+    × TakesBits element plan.width
 HasRest plan rest.Numbers tail = tail ≡ Array ∷ Vbr plan.chunks.bits ∷ []
-HasRest plan rest.Odd tail = ⊥
+HasRest plan rest.Odd tail = Unit {0}
 
--- a plan of these operands, unless it passes over nothing
+-- An array of so many elements comes first, and takes so many bits.
+abbrev pub HasArray : List Op → (count : ℕ) → BufferedBits → (len : ℕ) → Type 0
+HasArray tail count a len = (len ≤ length a.bits) × (element : Op) × (tail ≡ Array ∷ element ∷ [])
+    × (values : List ℕ) × (length values ≡ count)
+    × ((room : ℕ) → count ≤ room → Reads (values_of room tail) a values (beyond a len))
+
+-- a plan of these operands
 pub record PlanOf (ops : List Op) (plan : Plan) : Type 0 where
   pub others : List Op
   pub tail : List Op
@@ -57,8 +65,14 @@ pub record PlanOf (ops : List Op) (plan : Plan) : Type 0 where
   pub covers : Covers others plan.passes
   pub rest : HasRest plan plan.rest tail
 
+-- the same, unless the plan passes over nothing
 abbrev pub IsPlan : List Op → Plan → Type 0
 IsPlan ops plan = plan.rest ≢ rest.Odd → PlanOf ops plan
+
+-- Each plan is one of the definition at its index.
+abbrev pub ArePlans : List (List Op) → List Plan → Type 0
+ArePlans definitions plans = (i : ℕ) (plan : Plan) → slice_get plans i ≡ Some plan
+    → (ops : List Op) × (slice_get definitions i ≡ Some ops) × IsPlan ops plan
 
 -- A record that a rule reads from these bits was passed over.
 abbrev pub PassesOver : Grammar CodeAndValues → BufferedBits → Passed → Type 0

@@ -2,6 +2,7 @@
 
 ghost use Rattle.std.specs.Prelude.{◌≡◌, ◌-◌, ◌++◌, [], ◌∷◌, IfOk, OnOk, OnErr, length, slice_get};
 ghost use Rattle.std.specs.Option.{option_copied};
+ghost use Rattle.bit_abbrev.specs.Plans.{ArePlans};
 ghost use Rattle.bit_abbrev.specs.Table.{definitions_at};
 
 use crate::{Abbrev, InfoTable, Plan};
@@ -50,10 +51,18 @@ impl SharedInfo {
     {
         let own = Vec::new(alloc);
         let Some(table) = &self.table else {
-            return Ok(InForce { shared: None, group: usize::MAX, own });
+            return Ok(InForce {
+                shared: None,
+                group: usize::MAX,
+                own,
+            });
         };
         if table.for_block(id).is_empty() {
-            return Ok(InForce { shared: None, group: usize::MAX, own });
+            return Ok(InForce {
+                shared: None,
+                group: usize::MAX,
+                own,
+            });
         }
         Ok(InForce {
             shared: Some((table.clone()?, id)),
@@ -170,9 +179,11 @@ impl InForce {
 
     /// The plans of the first definitions, possibly none.
     #[inline]
-    pub fn plans(&self) -> &[Plan] {
+    pub fn plans(&self) -> &[Plan]
+        ensures { ArePlans self.now result.now }
+    {
         match &self.shared {
-            Some((table, _)) => table.plans_at(self.group),
+            Some((table, id)) => table.plans_at(self.group, *id),
             None => &[],
         }
     }

@@ -2,9 +2,11 @@
 
 ghost use Rattle.std.specs.Prelude.{◌≡◌, ℕ, OnOk, OnErr};
 ghost use Rattle.bit_grammar.specs.Terms.{defined_at, no_definitions};
-ghost use Rattle.bit_abbrev.specs.Table.{definitions_at};
+ghost use Rattle.bit_abbrev.specs.Groups.{AreFirst};
+ghost use Rattle.bit_abbrev.specs.Table.{definitions_at, table_shown};
 
 use crate::Abbrev;
+use crate::groups::PlanGroups;
 use crate::plan::Plan;
 use std::alloc::{AllocError, Global};
 use std::collections::BTreeMap;
@@ -16,21 +18,8 @@ use std::marker::Model;
 pub struct InfoTable {
     alloc: Global,
     lists: BTreeMap<u32, Vec<Abbrev>>,
-    /// The plans of the first definitions for some block ids.
-    groups: Vec<PlanGroup>,
-    /// How many plans there are.
-    planned: usize,
+    groups: PlanGroups,
 }
-
-/// The plans of the first definitions for a block id.
-#[derive(Drop)]
-struct PlanGroup {
-    id: u32,
-    plans: Vec<Plan>,
-}
-
-/// How many plans a table has at most.
-const MOST_PLANS: usize = 64;
 
 impl Model for InfoTable {
     ghost use Rattle.std.specs.Prelude.{ℕ, List};
@@ -38,9 +27,36 @@ impl Model for InfoTable {
 
     ghost Value = { List (ℕ × List (List Op)) };
 
-    ghost use Rattle.bit_abbrev.specs.Table.{table_shown};
+    ghost use Rattle.bit_abbrev.specs.Groups.{HavePlans};
+    ghost use Rattle.bit_abbrev.specs.Table.{definitions_at, table_shown};
 
     ghost view = { λ table. table_shown table.lists.entries };
+
+    ghost invariant = { λ table. HavePlans (definitions_at (table_shown table.lists.entries))
+        table.groups.groups.items };
+}
+
+/// Adds a definition to those for a block id. If an allocation fails, it is dropped.
+fn add(
+    lists: &mut BTreeMap<u32, Vec<Abbrev>>,
+    alloc: Global,
+    id: u32,
+    abbrev: Abbrev,
+) -> Result<(), AllocError>
+    ensures ok { OnOk result ((other : ℕ)
+        → definitions_at (table_shown lists.new.entries) other
+        ≡ defined_at id «abbrev» (definitions_at (table_shown lists.old.entries)) other) }
+    ensures err { OnErr result (table_shown lists.new.entries ≡ table_shown lists.old.entries) }
+{
+    if let Some(list) = lists.get_mut(&id) {
+        list.push(abbrev)?;
+        return Ok(());
+    }
+    // Most hold few definitions, and there may be one for each id.
+    let mut list = Vec::with_capacity(alloc, 1)?;
+    list.push(abbrev)?;
+    lists.insert(id, list)?;
+    Ok(())
 }
 
 impl InfoTable {
@@ -51,46 +67,21 @@ impl InfoTable {
         InfoTable {
             alloc,
             lists: BTreeMap::new(alloc),
-            groups: Vec::new(alloc),
-            planned: 0,
+            groups: PlanGroups::new(alloc),
         }
     }
 
     /// The place of the plans for a block id, if there are any.
     pub(crate) fn group_of(&self, id: u32) -> Option<usize> {
-        self.groups.iter().position(|group| group.id == id)
+        self.groups.place_of(id)
     }
 
-    /// The plans at a place.
+    /// The plans at a place, if they are those of the first definitions for this block id.
     #[inline(always)]
-    pub(crate) fn plans_at(&self, place: usize) -> &[Plan] {
-        match self.groups.get(place) {
-            Some(group) => group.plans.as_slice(),
-            None => &[],
-        }
-    }
-
-    /// Makes the plan of the next definition for a block id, which has `before` definitions. If an allocation fails, there is none.
-    fn plan(&mut self, id: u32, before: usize, abbrev: &Abbrev) -> Result<(), AllocError> {
-        if self.planned == MOST_PLANS {
-            return Ok(());
-        }
-        if before == 0 {
-            let mut plans = Vec::with_capacity(self.alloc, 1)?;
-            plans.push(Plan::of(abbrev.ops()))?;
-            self.groups.push(PlanGroup { id, plans })?;
-            self.planned += 1;
-            return Ok(());
-        }
-        let Some(place) = self.group_of(id) else {
-            return Ok(());
-        };
-        let group = &mut self.groups[place];
-        if group.plans.len() == before {
-            group.plans.push(Plan::of(abbrev.ops()))?;
-            self.planned += 1;
-        }
-        Ok(())
+    pub(crate) fn plans_at(&self, place: usize, id: u32) -> &[Plan]
+        ensures { AreFirst (definitions_at self.now id) result.now }
+    {
+        self.groups.at(place, id)
     }
 
     /// The definitions for a block id, possibly none.
@@ -111,15 +102,14 @@ impl InfoTable {
         ensures err { OnErr result (self.new ≡ self.old) }
     {
         let before = self.for_block(id).len();
-        self.plan(id, before, &abbrev)?;
-        if let Some(list) = self.lists.get_mut(&id) {
-            list.push(abbrev)?;
-            return Ok(());
+        self.groups.add(self.alloc, id, before, abbrev.ops())?;
+        match add(&mut self.lists, self.alloc, id, abbrev) {
+            Ok(()) => Ok(()),
+            Err(error) => {
+                // One of the plans is of no definition.
+                self.groups.clear();
+                Err(error)
+            }
         }
-        // Most hold few definitions, and there may be one for each id.
-        let mut list = Vec::with_capacity(self.alloc, 1)?;
-        list.push(abbrev)?;
-        self.lists.insert(id, list)?;
-        Ok(())
     }
 }

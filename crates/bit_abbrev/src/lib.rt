@@ -14,10 +14,13 @@
 mod abbrev;
 mod bits;
 mod definition;
+mod groups;
 mod in_force;
 mod info;
 mod laws;
 mod plan;
+#[cfg(test)]
+mod plan_tests;
 #[cfg(test)]
 mod reading_tests;
 mod record;

@@ -1,23 +1,18 @@
-use Rattle.std.proofs.Common.{◌∙◌, [], ap, refl}
-use Rattle.std.proofs.lemmas.Result.{err_from_is_err_and}
-use Rattle.bit_abbrev.specs.Table.{table_shown}
-use Rattle.bit_abbrev.proofs.Table.{found_at, none_at, kept, defined}
+use Rattle.std.proofs.Common.{ℕ, List, sym, ap, ◌∙◌, length, subst}
+use Rattle.bit_grammar.specs.declared.op.Op.{Op}
+use Rattle.bit_grammar.specs.Terms.{defined_at}
+use Rattle.bit_abbrev.specs.Groups.{HavePlans}
+use Rattle.bit_abbrev.specs.Table.{definitions_at, table_shown}
+use Rattle.bit_abbrev.proofs.Grouping.{same_have}
 use Rattle.bit_abbrev.proofs.info.InfoTable.define.Goals as goal
 
-pub returns-in_err-push-clause-err : goal.returns-in_err-push-clause-err
-returns-in_err-push-clause-err c =
-    let failed = err_from_is_err_and c.from_residual.result c.from_residual.ensures.1 in
-    rw failed.1 (ap table_shown (c.get_mut.follows.holds c.push.new.self).0 ∙ kept c.self.inside.lists.entries c.args.id c.in-Some.list.now c.push.new.self c.in-Some.ensures.value c.in_err-push.ensures.items ∙ c.self.view_is)
+pub invariant_of-self : goal.invariant_of-self
+invariant_of-self c = c.in_err-add.ensures.err (definitions_at (table_shown c.self.inside.lists.entries)) c.self.invariant
 
-pub returns-in-Some-clause-ok : goal.returns-in-Some-clause-ok
-returns-in-Some-clause-ok c =
-    let writes = c.get_mut.follows.holds c.push.new.self in
-    let found = found_at c.self.inside.lists.entries c.args.id c.in-Some.list.now c.in-Some.ensures.value in
-    rw (← c.self.view_is) (defined c.self.inside.lists.entries (c.get_mut.follows.lender c.push.new.self).entries c.args.id c.args.abbrev c.in-Some.list.now.items c.push.new.self ((writes.3 (rw (← c.in-Some.ensures.value) refl)).0) found c.in_ok-push.ensures.items)
-
-pub returns-clause-ok : goal.returns-clause-ok
-returns-clause-ok c =
-    let found = none_at c.self.inside.lists.entries c.args.id c.in_default.ensures.value in
-    let puts = rw c.get_mut.follows.holds-at-none at c.in_ok-insert.ensures.updates.0 in
-    let items = rw c.in_ok-list.ensures.items at c.in_ok-push-2.ensures.items in
-    rw (← c.self.view_is) (defined c.self.inside.lists.entries c.insert.new.self.entries c.args.id c.args.abbrev [] c.push-2.new.self puts found items)
+pub invariant_of-self-in-Ok : goal.invariant_of-self-in-Ok
+invariant_of-self-in-Ok c =
+    let old = definitions_at (table_shown c.self.inside.lists.entries) in
+    let groups = c.add.new.self.groups.items in
+    let many = sym (ap length (c.for_block-before.ensures ∙ ap (λ (table : List (ℕ × List (List Op))). definitions_at table c.args.id) (sym c.self.view_is))) in
+    let planned = subst (λ (ops : List Op). HavePlans (defined_at c.args.id ops old) groups) c.ops.ensures.items (c.in_ok-add.ensures.ok old c.self.invariant many) in
+    same_have (defined_at c.args.id c.args.abbrev old) (definitions_at (table_shown c.add-2.new.lists.entries)) groups c.in-Ok.ensures.ok planned
