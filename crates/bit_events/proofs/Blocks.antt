@@ -1,6 +1,6 @@
 -- Beginnings and ends of blocks that are buffered, and what is gathered with them.
 use Rattle.std.proofs.Common.{◌≡◌, ℕ, ◌+◌, ◌-◌, ◌%◌, ◌<◌, ◌≤◌, zero, suc, is_none, is_some, Bool, true, false, List, [], ◌∷◌, ◌++◌, length, length-append, get_or, vec_len, drop, None, Some, Option, Result, Ok, Err, refl, sym, ap, subst, ◌∙◌, arith, ltb}
-use Rattle.std.specs.Prelude.{IfOk, OnOk, OnSome}
+use Rattle.std.specs.Prelude.{IfNone, IfSome, IsNone, OnOk}
 use Rattle.std.proofs.lemmas.List.{append-nil, drop_at}
 use Rattle.std.proofs.lemmas.Bool.{lt-ltb}
 use Rattle.bit_grammar.specs.declared.reason.Reason.TheVariants.{TooDeep, TopLevel, NestedInBlockInfo}
@@ -25,12 +25,11 @@ use Rattle.bit_events.specs.declared.machine.Machine.{Machine}
 use Rattle.bit_events.specs.declared.machine.Step.{Step}
 use Rattle.bit_events.specs.FrameView.{info_shown, frame_shown, frames_shown}
 use Rattle.bit_events.specs.HeadView.{head_shown}
-use Rattle.bit_events.specs.MachineView.{handed_shown, machine_shown, step_shown, end_rule, InBlock, LeavesMachine}
+use Rattle.bit_events.specs.MachineView.{bit_after, handed_shown, machine_shown, step_shown, end_rule, InBlock, LeavesMachine}
 use Rattle.bit_events.specs.Folding.{GathersSome, Lost, MissesEvents, TakesRun}
 use Rattle.bit_events.specs.Gathering.{Gathers}
 use Rattle.bit_events.specs.Next.{left_to_tell, FindsEvent}
 use Rattle.bit_events.specs.Runs.{FindsHere, GathersOn, GathersRun, GathersUpTo, Passed, StepsHere, StopsOn}
-use Rattle.std.specs.declared.alloc.AllocError.{AllocError}
 use Rattle.bit_events.proofs.Advancing.{dead, finds_event, leaves_later, none_shown}
 use Rattle.bit_events.proofs.Folds.{before_none, first_after, first_event, first_none, first_some, loses_later, none_yet, one_event, some_then, stays_same, stops_later}
 use Rattle.bit_events.proofs.Runs.{advanced_both, passed_both, passed_forward}
@@ -46,14 +45,9 @@ plain_width m k f width count is plain same = λ shown outer split.
     let inner = innermost m.frames.items k f shown outer count is split in
     (subst (λ (x : machine.Frame). x.info ≡ None) inner (ap info_shown (none_some f.info plain)), same ∙ ap (λ (x : machine.Frame). x.head.width) inner)
 
--- a block is open
-pub some_block : (count : ℕ) (outside : Bool) → (count ≡ 0 → outside ≡ true) → outside ≡ false → 0 < count
-some_block zero outside is isnt = absurd (dead outside (is refl) isnt)
-some_block (suc count) outside is isnt = omega arith
-
 -- ---- a step by a part of its rule
 
-judged : (holds : Bool) (fault : grammar.Fault) (a : Reader) → holds ≡ true → a.live ≡ true → Took (test holds fault) a tt a
+pub judged : (holds : Bool) (fault : grammar.Fault) (a : Reader) → holds ≡ true → a.live ≡ true → Took (test holds fault) a tt a
 judged holds fault a is live = same_reading (gives (tt {0})) (test holds fault) a (Ok (tt {0})) a (λ p r. rw is refl) (took_nothing (tt {0}) a live)
 
 -- a block begins
@@ -97,65 +91,63 @@ none_if None isnt = refl
 none_if (Some x) isnt = absurd (isnt x refl)
 
 -- what follows an id
-later : (rule whole : Grammar (Event × machine.Machine)) (deepest : ℕ) (m : Machine) (a b : BufferedBits) (found : Option Step) (n : Machine) (c : BufferedBits) → a.position ≤ b.position → ((value : Event × machine.Machine) → Took rule (reader_at b) value (reader_at c) → Took whole (reader_at a) value (reader_at c)) → StepsHere rule deepest m b found n c → StepsHere whole deepest m a found n c
-later rule whole deepest m a b None n c forward so same = same
-later rule whole deepest m a b (Some found) n c forward so steps = λ list.
-    let here = steps list in
+later : (rule whole : Grammar (Event × machine.Machine)) (deepest : ℕ) (m : Machine) (a b : BufferedBits) (found : Option Step) (n : Machine) → a.position ≤ b.position → ((c : BufferedBits) (value : Event × machine.Machine) → Took rule (reader_at b) value (reader_at c) → Took whole (reader_at a) value (reader_at c)) → StepsHere rule deepest m b found n → StepsHere whole deepest m a found n
+later rule whole deepest m a b None n forward so same = same
+later rule whole deepest m a b (Some found) n forward so steps = (steps.0, steps.1, λ list.
+    let c = steps.0 in
+    let here = steps.2 list in
     let value : Event × machine.Machine = (step_shown n list found, machine_shown n) in
     record {
-      reads = took_reads whole a value c (so value (reads_took rule b value c here.reads (reads_forward rule b value c here.reads)));
+      reads = took_reads whole a value c (so c value (reads_took rule b value c here.reads (reads_forward rule b value c here.reads)));
       leaves = leaves_later (reader_at a) (reader_at b) (reader_at c) forward here.leaves;
-    }
+    })
 
 -- a block, at the top or in the innermost one, which is no BLOCKINFO block
-pub step_opens : (limits : Limits) (m : Machine) (width first : ℕ) (a b : BufferedBits) (found : Option Step) (n : Machine) (c : BufferedBits) → InBlock m (λ f outer. (f.info ≡ None) × (width ≡ f.head.width)) → (vec_len m.frames ≡ 0 → width ≡ 2) → first ≡ a.position → Reads (fixed width) a 1 b → StepsHere (open_block limits (frames_shown m.frames.items) first (handed_shown m)) limits.depth m b found n c → StepsHere (step limits (machine_shown m)) limits.depth m a found n c
-step_opens limits m width first a b found n c inside top is id steps = go (frames_shown m.frames.items) refl
+pub step_opens : (limits : Limits) (m : Machine) (width first : ℕ) (a b : BufferedBits) (found : Option Step) (n : Machine) → InBlock m (λ f outer. (f.info ≡ None) × (width ≡ f.head.width)) → (vec_len m.frames ≡ 0 → width ≡ 2) → first ≡ a.position → Reads (fixed width) a 1 b → StepsHere (open_block limits (frames_shown m.frames.items) first (handed_shown m)) limits.depth m b found n → StepsHere (step limits (machine_shown m)) limits.depth m a found n
+step_opens limits m width first a b found n inside top is id steps = go (frames_shown m.frames.items) refl
   where
     forward : a.position ≤ b.position
     forward = reads_forward (fixed width) a 1 b id
 
-    go : (frames : List machine.Frame) → frames_shown m.frames.items ≡ frames → StepsHere (step limits (machine_shown m)) limits.depth m a found n c
+    go : (frames : List machine.Frame) → frames_shown m.frames.items ≡ frames → StepsHere (step limits (machine_shown m)) limits.depth m a found n
     go [] none =
         let two = subst (λ (w : ℕ). Reads (fixed w) a 1 b) (top (m.frames.ok.0 ∙ none_shown m.frames.items none)) id in
-        rw none (later (open_block limits [] first (handed_shown m)) (machine.step_top limits (handed_shown m)) limits.depth m a b found n c forward
-        (λ value took. top_opens limits (handed_shown m) (reader_at a) 1 (reader_at b) first (reader_at b) (Ok value) (reader_at c) is (reads_took (fixed 2) a 1 b two forward) (judged true (at TopLevel first) (reader_at b) refl refl) took)
+        rw none (later (open_block limits [] first (handed_shown m)) (machine.step_top limits (handed_shown m)) limits.depth m a b found n forward
+        (λ c value took. top_opens limits (handed_shown m) (reader_at a) 1 (reader_at b) first (reader_at b) (Ok value) (reader_at c) is (reads_took (fixed 2) a 1 b two forward) (judged true (at TopLevel first) (reader_at b) refl refl) took)
         (rw none at steps))
     go (f ∷ outer) split =
         let here = inside f outer split in
         let scope = scope_of f (handed_shown m) in
         let read = subst (λ (w : ℕ). Reads (fixed w) a 1 b) here.1 id in
-        rw split (later (open_block limits (f ∷ outer) first (handed_shown m)) (machine.step_in limits f.head outer scope) limits.depth m a b found n c forward
-        (λ value took. in_then limits f.head outer scope (reader_at a) 1 (reader_at b) first (Ok value) (reader_at c) is (reads_took (fixed f.head.width) a 1 b read forward)
+        rw split (later (open_block limits (f ∷ outer) first (handed_shown m)) (machine.step_in limits f.head outer scope) limits.depth m a b found n forward
+        (λ c value took. in_then limits f.head outer scope (reader_at a) 1 (reader_at b) first (Ok value) (reader_at c) is (reads_took (fixed f.head.width) a 1 b read forward)
         (after_nested limits f outer first 1 (handed_shown m) (reader_at b) (Ok value) (reader_at c) refl refl
         (nested_opens limits f.head outer first scope (reader_at b) (reader_at b) (Ok value) (reader_at c) (judged (is_none f.info) (at NestedInBlockInfo first) (reader_at b) (ap is_none here.0) refl) took)))
         (rw split at steps))
 
 -- its end
-pub step_ends : (limits : Limits) (m : Machine) (width : ℕ) (a b : BufferedBits) (found : Option Step) (n : Machine) (c : BufferedBits) → 0 < vec_len m.frames → InBlock m (λ f outer. (f.info ≡ None) × (width ≡ f.head.width)) → Reads (fixed width) a 0 b → InBlock m (λ f outer. f.info ≡ None → StepsHere (end_rule f outer (handed_shown m)) limits.depth m b found n c) → StepsHere (step limits (machine_shown m)) limits.depth m a found n c
-step_ends limits m width a b found n c some inside id steps = go (frames_shown m.frames.items) refl
+pub step_ends : (limits : Limits) (m : Machine) (width : ℕ) (a b : BufferedBits) (found : Option Step) (n : Machine) → InBlock m (λ f outer. (f.info ≡ None) × (width ≡ f.head.width)) → Reads (fixed width) a 0 b → (vec_len m.frames ≡ 0 → IsNone found) → (IfNone found (n ≡ m)) → InBlock m (λ f outer. f.info ≡ None → StepsHere (end_rule f outer (handed_shown m)) limits.depth m b found n) → StepsHere (step limits (machine_shown m)) limits.depth m a found n
+step_ends limits m width a b None n inside id outside same steps = same
+step_ends limits m width a b (Some found) n inside id outside same steps = go (frames_shown m.frames.items) refl
   where
     forward : a.position ≤ b.position
     forward = reads_forward (fixed width) a 0 b id
 
-    go : (frames : List machine.Frame) → frames_shown m.frames.items ≡ frames → StepsHere (step limits (machine_shown m)) limits.depth m a found n c
-    go [] none = absurd (omega (arith, some, m.frames.ok.0, none_shown m.frames.items none))
+    go : (frames : List machine.Frame) → frames_shown m.frames.items ≡ frames → StepsHere (step limits (machine_shown m)) limits.depth m a (Some found) n
+    go [] none = absurd (outside (m.frames.ok.0 ∙ none_shown m.frames.items none))
     go (f ∷ outer) split =
         let here = inside f outer split in
         let scope = scope_of f (handed_shown m) in
         let read = subst (λ (w : ℕ). Reads (fixed w) a 0 b) here.1 id in
-        rw split (later (end_rule f outer (handed_shown m)) (machine.step_in limits f.head outer scope) limits.depth m a b found n c forward
-        (λ value took. in_then limits f.head outer scope (reader_at a) 0 (reader_at b) a.position (Ok value) (reader_at c) refl (reads_took (fixed f.head.width) a 0 b read forward)
+        rw split (later (end_rule f outer (handed_shown m)) (machine.step_in limits f.head outer scope) limits.depth m a b (Some found) n forward
+        (λ c value took. in_then limits f.head outer scope (reader_at a) 0 (reader_at b) a.position (Ok value) (reader_at c) refl (reads_took (fixed f.head.width) a 0 b read forward)
         (after_end limits f outer a.position 0 (handed_shown m) (reader_at b) (Ok value) (reader_at c) refl took))
         (steps f outer split here.0))
 
 -- it reads at least the id
-pub moved_here : (rule : Grammar (Event × machine.Machine)) (deepest : ℕ) (m : Machine) (a b : BufferedBits) (found : Option Step) (n : Machine) (c : BufferedBits) → a.position < b.position → StepsHere rule deepest m b found n c → OnSome found (a.position < c.position)
-moved_here rule deepest m a b None n c moves steps = tt
-moved_here rule deepest m a b (Some found) n c moves steps = omega (arith, moves, (steps []).leaves.forward)
-
-pub if_ok : {X : Type 0} (P Q : X → Type 0) (result : Result X AllocError) → ((x : X) → P x → Q x) → IfOk result P → IfOk result Q
-if_ok P Q (Ok x) so p = so x p
-if_ok P Q (Err e) so p = tt
+pub moved_here : (rule : Grammar (Event × machine.Machine)) (deepest : ℕ) (m : Machine) (a b : BufferedBits) (found : Option Step) (n : Machine) → a.position < b.position → StepsHere rule deepest m b found n → IfSome found (λ step. a.position < bit_after step)
+moved_here rule deepest m a b None n moves steps = tt
+moved_here rule deepest m a b (Some found) n moves steps = omega (arith, moves, steps.1, (steps.2 []).leaves.forward)
 
 -- ---- what is gathered
 
@@ -191,13 +183,8 @@ on_both gathered limits m a g n b h o c k p q = record {
 }
 
 -- records of the innermost block
-pub on_run : {G : Type 0} (gathered : G → List Event → G → Type 0) (limits : Limits) (f : Frame) (m : Machine) (outer : List machine.Frame) (a : BufferedBits) (g : G) (used after : ℕ) (h : G) (b : BufferedBits) → frames_shown m.frames.items ≡ frame_shown f ∷ outer → GathersRun gathered limits f m.used a g used after h → b ≡ beyond a (after - a.position) → GathersOn gathered limits m a g (record m { used = used }) b h
-on_run gathered limits f m outer a g used after h b split run is =
-    let p = run.2.passed in
-    let place : a.position + (after - a.position) ≡ run.0.position = omega (arith, p.2, run.1) in
-    let left : drop (after - a.position) a.bits ≡ run.0.bits = ap (drop (after - a.position)) p.1 ∙ drop_at p.0 run.0.bits (after - a.position) (omega (arith, p.2, run.1)) in
-    let same : run.0 ≡ b = sym (is ∙ rw (place, left) refl) in
-    subst (λ (x : BufferedBits). GathersOn gathered limits m a g (record m { used = used }) x h) same (record { passed = p; gathers = λ r sees. run.2.gathers m outer r split refl sees })
+pub on_run : {G : Type 0} (gathered : G → List Event → G → Type 0) (limits : Limits) (f : Frame) (m : Machine) (outer : List machine.Frame) (a : BufferedBits) (g : G) (used after : ℕ) (h : G) → frames_shown m.frames.items ≡ frame_shown f ∷ outer → GathersRun gathered limits f m.used a g used after h → GathersUpTo gathered limits m a g (record m { used = used }) after h
+on_run gathered limits f m outer a g used after h split run = (run.0, run.1, record { passed = run.2.passed; gathers = λ r sees. run.2.gathers m outer r split refl sees })
 
 -- a step passes bits
 pub step_passed : (rule : Grammar (Event × machine.Machine)) (deepest : ℕ) (m : Machine) (a : BufferedBits) (event : Event) (n : Machine) (b : BufferedBits) → FindsHere rule deepest m a event n b → Passed a b
@@ -358,3 +345,32 @@ passed_beyond a b n p is =
 
 pub passed_few : (a b : BufferedBits) → Passed a b → b.position - a.position ≤ length a.bits
 passed_few a b p = omega (arith, p.2, ap length p.1, length-append p.0 b.bits)
+
+-- ---- what is gathered up to a bit
+
+pub up_to_none : {G : Type 0} (gathered : G → List Event → G → Type 0) (limits : Limits) (m : Machine) (a : BufferedBits) (g : G) (first : ℕ) → a.position ≡ first → (vec_len m.frames ≡ 0 → first % 8 ≡ 0) → GathersUpTo gathered limits m a g m first g
+up_to_none gathered limits m a g first is aligned = (a, is, on_none gathered limits m a g (λ none. omega (arith, is, aligned none)))
+
+up_to_here : {G : Type 0} (gathered : G → List Event → G → Type 0) (limits : Limits) (m : Machine) (a : BufferedBits) (g : G) (n : Machine) (first : ℕ) (h : G) (p : GathersUpTo gathered limits m a g n first h) → beyond a (first - a.position) ≡ p.0
+up_to_here gathered limits m a g n first h p = passed_beyond a p.0 (first - a.position) p.2.passed (ap (λ (q : ℕ). q - a.position) (sym p.1))
+
+pub up_to_both : {G : Type 0} (gathered : G → List Event → G → Type 0) (limits : Limits) (m : Machine) (a : BufferedBits) (g : G) (n : Machine) (first : ℕ) (h : G) (o : Machine) (after : ℕ) (k : G) → GathersUpTo gathered limits m a g n first h → GathersUpTo gathered limits n (beyond a (first - a.position)) h o after k → GathersUpTo gathered limits m a g o after k
+up_to_both gathered limits m a g n first h o after k p q =
+    (q.0, q.1, on_both gathered limits m a g n p.0 h o q.0 k p.2 (subst (λ (x : BufferedBits). GathersOn gathered limits n x h o q.0 k) (up_to_here gathered limits m a g n first h p) q.2))
+
+-- the bit is not before the buffered bits, nor behind them, and outside of all blocks it begins a byte
+pub up_to_there : {G : Type 0} (gathered : G → List Event → G → Type 0) (limits : Limits) (m : Machine) (a : BufferedBits) (g : G) (n : Machine) (first : ℕ) (h : G) → GathersUpTo gathered limits m a g n first h → (a.position ≤ first) × (first - a.position ≤ length a.bits) × (vec_len n.frames ≡ 0 → first % 8 ≡ 0)
+up_to_there gathered limits m a g n first h p = (
+  omega (arith, passed_forward a p.0 p.2.passed, p.1),
+  omega (arith, passed_few a p.0 p.2.passed, p.1),
+  λ none. omega (arith, on_aligned gathered limits m a g n p.0 h p.2 none, p.1),
+)
+
+pub up_to_step : {G : Type 0} (gathered : G → List Event → G → Type 0) (limits : Limits) (m : Machine) (a : BufferedBits) (g : G) (list : List ℕ) (found : Step) (n : Machine) (h : G) → StepsHere (step limits (machine_shown m)) limits.depth m a (Some found) n → a.position < bit_after found → Gathers gathered g (step_shown n list found) h → GathersUpTo gathered limits m a g n (bit_after found) h
+up_to_step gathered limits m a g list found n h steps moves gathers = (steps.0, steps.1, on_step gathered limits m a g (step_shown n list found) n steps.0 h (steps.2 list) (omega (arith, moves, steps.1)) gathers)
+
+pub stop_at_step : {G : Type 0} (gathered : G → List Event → G → Type 0) (fails : G → Option Event → G → Type 0) (limits : Limits) (m : Machine) (a : BufferedBits) (g : G) (list : List ℕ) (found : Step) (n : Machine) (h : G) → StepsHere (step limits (machine_shown m)) limits.depth m a (Some found) n → a.position < bit_after found → fails g (Some (step_shown n list found)) h → StopsOn gathered fails limits m a g h
+stop_at_step gathered fails limits m a g list found n h steps moves failed = stop_step gathered fails limits m a g (step_shown n list found) n steps.0 h (steps.2 list) (omega (arith, moves, steps.1)) failed
+
+pub stop_behind : {G : Type 0} (gathered : G → List Event → G → Type 0) (fails : G → Option Event → G → Type 0) (limits : Limits) (m : Machine) (a : BufferedBits) (g : G) (n : Machine) (first : ℕ) (h k : G) → GathersUpTo gathered limits m a g n first h → StopsOn gathered fails limits n (beyond a (first - a.position)) h k → StopsOn gathered fails limits m a g k
+stop_behind gathered fails limits m a g n first h k p later = stop_after gathered fails limits m a g n p.0 h k p.2 (subst (λ (x : BufferedBits). StopsOn gathered fails limits n x h k) (up_to_here gathered limits m a g n first h p) later)

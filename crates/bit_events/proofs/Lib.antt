@@ -9,6 +9,7 @@ pub mod WholeInputs
 pub mod Folds
 pub mod Runs
 pub mod Blocks
+pub mod PlacedHeads
 pub mod InSlices
 pub mod Kept
 pub mod Standings

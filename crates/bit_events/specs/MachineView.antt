@@ -46,6 +46,13 @@ step_shown m values (found.Record head) = record_of head.«abbrev» values head.
     (head.code, head.after)
 step_shown m values (found.Leave after) = leaves after
 
+-- the bit after a step
+abbrev pub bit_after : Step → ℕ
+bit_after (found.Enter id width first body) = body
+bit_after (found.Define first after) = after
+bit_after (found.Record head) = head.after
+bit_after (found.Leave after) = after
+
 -- the same event as it is lent, if the machine has its definition
 abbrev pub step_lent : Machine → List ℕ → Step → Option Event
 step_lent m values (found.Define first after) = option_map (definition_of first after)

@@ -17,7 +17,7 @@ use Rattle.bit_events.specs.FrameView.{frame_shown, frames_shown}
 use Rattle.bit_events.specs.Folding.{GathersFirst, GathersSome}
 use Rattle.bit_events.specs.Gathering.{Gathers}
 use Rattle.bit_events.specs.Next.{left_to_tell}
-use Rattle.bit_events.specs.MachineView.{machine_shown, record_of, step_shown, LeavesMachine}
+use Rattle.bit_events.specs.MachineView.{bit_after, machine_shown, record_of, step_shown, LeavesMachine}
 
 -- the values read come after the earlier ones
 abbrev pub AddsBehind : (List ℕ → Type 0) → (before after : List ℕ) → Type 0
@@ -115,18 +115,22 @@ StopsFrom gathered fails limits f used id first b g h = (a : BufferedBits) → a
 
 -- ---- blocks
 
+-- the rule reads this value from the buffered bits, up to a bit
+abbrev pub ReadsUpTo : {A : Type 0} → Grammar A → BufferedBits → A → (after : ℕ) → Type 0
+ReadsUpTo rule a value after = (b : BufferedBits) × (b.position ≡ after) × Reads rule a value b
+
 -- by a rule this event was found in the buffered bits
 pub record FindsHere (rule : Grammar (Event × machine.Machine)) (deepest : ℕ) (m : Machine)
     (a : BufferedBits) (event : Event) (n : Machine) (b : BufferedBits) : Type 0 where
   pub reads : Reads rule a (event, machine_shown n) b
   pub leaves : LeavesMachine deepest m (reader_at a) event n (reader_at b)
 
--- By a rule a step was found in the buffered bits, with any values for a record; or the machine is as before.
+-- By a rule a step was found in the buffered bits, up to the bit after it, with any values for a record; or the machine is as before.
 abbrev pub StepsHere : Grammar (Event × machine.Machine) → (deepest : ℕ) → Machine → BufferedBits
-    → Option Step → Machine → BufferedBits → Type 0
-StepsHere rule deepest m a None n b = n ≡ m
-StepsHere rule deepest m a (Some step) n b = (list : List ℕ)
-    → FindsHere rule deepest m a (step_shown n list step) n b
+    → Option Step → Machine → Type 0
+StepsHere rule deepest m a None n = n ≡ m
+StepsHere rule deepest m a (Some step) n = (b : BufferedBits) × (b.position ≡ bit_after step)
+    × ((list : List ℕ) → FindsHere rule deepest m a (step_shown n list step) n b)
 
 -- For each reader before `a`: events were gathered up to `b`, and the reader is then before `b`.
 pub record GathersOn {G : Type 0} (gathered : G → List Event → G → Type 0) (limits : Limits)

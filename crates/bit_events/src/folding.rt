@@ -1,13 +1,14 @@
 //! Reading a whole input into a `Gatherer`.
 
-ghost use Rattle.std.specs.Prelude.{◌≡◌, ◌<◌, ◌≤◌, ◌%◌, true, ℕ, List, [], Some, OnOk, OnErr, IfOk, vec_len};
+ghost use Rattle.std.specs.Prelude.{◌≡◌, ◌<◌, ◌≤◌, ◌-◌, ◌%◌, true, ℕ, List, [], Some, OnOk, OnErr, IfOk, length, vec_len};
+ghost use Rattle.bit_fields.specs.Buffered.{beyond};
 ghost use Rattle.bit_fields.specs.BufferedParts.{bits_of_parts, AreParts};
 ghost use Rattle.bit_fields.specs.Opening.{head_told};
 ghost use Rattle.bit_events.specs.Folding.{Lost, TakesRun, TakesNext, TakesAll, Gathered, GatheredSome};
 ghost use Rattle.bit_events.specs.Gathering.{Gathers};
 ghost use Rattle.bit_events.specs.MachineView.{step_shown, HoldsDefinition, TookSome};
 ghost use Rattle.bit_events.specs.Reading.{ReadsWhole};
-ghost use Rattle.bit_events.specs.Runs.{GathersOn, GathersUpTo, StopsOn};
+ghost use Rattle.bit_events.specs.Runs.{GathersUpTo, StopsOn};
 
 #[cfg(test)]
 mod asking_inputs;
@@ -76,7 +77,20 @@ fn gather_innermost<G: Gatherer>(
     limits: &Limits,
     gatherer: &mut G,
     values: &mut G::Values,
-) -> Result<u64, AllocError> {
+) -> Result<u64, AllocError>
+    requires lawful { AreParts parts }
+    requires least { (bits_of_parts parts).position ≤ first }
+    requires there { first - (bits_of_parts parts).position ≤ length (bits_of_parts parts).bits }
+    requires took { TookSome G.Values.took values.old }
+    requires aligned { vec_len machine.old.frames ≡ 0 → first % 8 ≡ 0 }
+    ensures took { TookSome G.Values.took values.new }
+    ensures gathers { IfOk result (λ after. GathersUpTo G.gathered limits.now machine.old
+        (beyond (bits_of_parts parts.entry) (first - (bits_of_parts parts.entry).position))
+        gatherer.old machine.new after gatherer.new) }
+    ensures stops { OnErr result (StopsOn G.gathered G.fails limits.now machine.old
+        (beyond (bits_of_parts parts.entry) (first - (bits_of_parts parts.entry).position))
+        gatherer.old gatherer.new) }
+{
     let Some(frame) = machine.frames.last() else {
         return Ok(first);
     };
@@ -113,8 +127,8 @@ fn loaded_at(first: u64, loaded: u64) -> u64 {
 /// one. Readers of all sources share it.
 ///
 /// The exact reader then loads the same bytes as if it had read the blocks itself, so it asks its source at the same places: a source
-/// may fail, or wait. That holds for sources that lend the same bytes until they are taken, and take as many as they are asked. For this the bits are divided before each block as that reader has them, up to `loaded` in its window. If no
-/// memory is left, `loaded` is as at the event that needed it.
+/// may fail, or wait. That holds for sources that lend the same bytes until they are taken, and take as many as they are asked.
+/// `loaded` is up to which bit that reader has loaded bytes, and if no memory is left, at the event that needed it.
 #[inline(never)]
 fn gather_buffered<G: Gatherer>(
     alloc: Global,

@@ -1,9 +1,10 @@
-ghost use Rattle.std.specs.Prelude.{◌≡◌, ◌+◌, ◌*◌, ◌≤◌, ◌%◌, OnOk, OnErr, OnSome, IsErr, IfOk, IfErr, IfSome, ◌==◌, ◌&&◌, nat_le, true};
+ghost use Rattle.std.specs.Prelude.{◌≡◌, ◌+◌, ◌*◌, ◌≤◌, ◌<◌, ◌^◌, ◌%◌, OnOk, OnErr, IsErr, IfOk, IfErr, IfSome, ◌==◌, ◌&&◌, nat_le, true, length};
 ghost use Rattle.bit_grammar.specs.Blocks.{block_id, new_width, block_head, end_of_block};
-ghost use Rattle.bit_fields.specs.Buffered.{Reads};
+ghost use Rattle.bit_fields.specs.PlacedView.{placed};
 ghost use Rattle.bit_fields.specs.Reader.{Takes, told_by, failed_reader};
 ghost use Rattle.bit_events.specs.Events.{Shuts};
 ghost use Rattle.bit_events.specs.HeadView.{head_shown};
+ghost use Rattle.bit_events.specs.Runs.{ReadsUpTo};
 
 use crate::head::BlockHead;
 use bit_fields::{BitReader, Fault, PlacedBits, Reason, Source};
@@ -75,7 +76,10 @@ pub(crate) fn block_head<S: Source>(reader: &mut BitReader<S>) -> Result<BlockHe
 
 /// Up to which bit an exact reader has loaded bytes once it has read a field, if it had those up to `loaded` before.
 #[inline(always)]
-pub(crate) fn loaded_by(first: u64, bits: u64, loaded: u64) -> u64 {
+pub(crate) fn loaded_by(first: u64, bits: u64, loaded: u64) -> u64
+    requires few { bits ≤ 64 }
+    requires fits { first + 64 < 2 ^ 64 }
+{
     if first + bits > loaded {
         return (first & !7) + 64;
     }
@@ -84,7 +88,9 @@ pub(crate) fn loaded_by(first: u64, bits: u64, loaded: u64) -> u64 {
 
 /// The same once it has read padding up to a bit.
 #[inline(always)]
-fn loaded_by_padding(after: u64, loaded: u64) -> u64 {
+fn loaded_by_padding(after: u64, loaded: u64) -> u64
+    requires { after + 64 < 2 ^ 64 }
+{
     if after > loaded {
         return loaded + 64;
     }
@@ -94,7 +100,11 @@ fn loaded_by_padding(after: u64, loaded: u64) -> u64 {
 /// Reads what comes between a block's abbreviation id and its items, and up to which bit an exact reader has loaded bytes then. `None`
 /// leaves it to that reader: also an id or a width of more than one chunk, which is rare.
 #[inline(always)]
-pub(crate) fn placed_head(bits: PlacedBits<'_>, loaded: u64) -> Option<(BlockHead, u64)> {
+pub(crate) fn placed_head(bits: PlacedBits<'_>, loaded: u64) -> Option<(BlockHead, u64)>
+    requires { 160 ≤ length (placed bits).bits }
+    ensures { IfSome result (λ read. ReadsUpTo block_head (placed bits.entry) (head_shown read.0)
+        read.0.body) }
+{
     let id = bits.fixed(8);
     let width = bits.after(8).fixed(4);
     if id >= 1 << 7 || width >= 1 << 3 || width == 0 {
@@ -153,7 +163,12 @@ pub(crate) fn placed_end(
     bits: PlacedBits<'_>,
     head: BlockHead,
     loaded: u64,
-) -> Option<(u64, u64)> {
+) -> Option<(u64, u64)>
+    requires { 160 ≤ length (placed bits).bits }
+    ensures reads { IfSome result (λ read. ReadsUpTo (end_of_block (head_shown head))
+        (placed bits.entry) read.0 read.0) }
+    ensures aligned { IfSome result (λ read. read.0 % 32 ≡ 0) }
+{
     let first = bits.position();
     let after = (first + 31) & !31;
     if bits.fixed((after - first) as u32) != 0 || !ends_at(head, after) {

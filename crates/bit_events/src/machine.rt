@@ -1,17 +1,18 @@
-ghost use Rattle.std.specs.Prelude.{◌≡◌, ◌<◌, ◌≤◌, ◌+◌, ◌-◌, ◌^◌, ◌%◌, true, [], ℕ, List, OnOk, OnErr, IfOk, vec_len, is_none, None, IfSome, IfNone, OnSome, IsTrue, ◌↔◌};
+ghost use Rattle.std.specs.Prelude.{◌≡◌, ◌<◌, ◌≤◌, ◌+◌, ◌-◌, ◌^◌, ◌%◌, true, [], ℕ, List, OnOk, OnErr, IfOk, vec_len, length, is_none, None, IsNone, IfSome, IfNone, OnSome, IsTrue, ◌↔◌};
 ghost use Rattle.std.specs.Option.{option_copied, option_map};
 ghost use Rattle.bit_grammar.specs.Blocks.{enter, leave};
 ghost use Rattle.bit_grammar.specs.Terms.{info_for};
 ghost use Rattle.bit_grammar.specs.Machine.{at_start, open_block, open_nested, step_after, step_in, step_top, step, scope_of, inside};
 ghost use Rattle.bit_fields.specs.Reader.{Takes, told_by};
 ghost use Rattle.bit_fields.specs.Buffered.{Reads};
+ghost use Rattle.bit_fields.specs.PlacedView.{placed};
 ghost use Rattle.bit_abbrev.specs.Values.{Gains, Has, Keeps};
 ghost use Rattle.bit_events.specs.Next.{FindsNext};
 ghost use Rattle.bit_events.specs.EventView.{shown_if_any};
 ghost use Rattle.bit_events.specs.HeadView.{head_shown};
 ghost use Rattle.bit_events.specs.FrameView.{info_shown, frames_shown};
 ghost use Rattle.bit_events.specs.Runs.{AddsBehind, StepsHere};
-ghost use Rattle.bit_events.specs.MachineView.{handed_shown, machine_shown, newest, step_shown, step_lent, after_step, KeepsValues, record_of, innermost_head, LeavesMachine, TookSome, InBlock, end_rule, define_rule, record_rule};
+ghost use Rattle.bit_events.specs.MachineView.{handed_shown, machine_shown, newest, bit_after, step_shown, step_lent, after_step, KeepsValues, record_of, innermost_head, LeavesMachine, TookSome, InBlock, end_rule, define_rule, record_rule};
 
 use crate::event::{Event, RecordHead};
 use crate::frame::{Describing, Frame, define, record_after};
@@ -71,7 +72,9 @@ fn info_for(alloc: Global, id: u32) -> Option<Describing>
 impl Step {
     /// The bit after a step at a block's beginning or end.
     #[inline(always)]
-    pub(crate) fn after(self) -> u64 {
+    pub(crate) fn after(self) -> u64
+        ensures { result ≡ bit_after self }
+    {
         match self {
             Step::Enter { body, .. } => body,
             Step::Define { after, .. } => after,
@@ -203,7 +206,13 @@ impl Machine {
 
     /// The width of the abbreviation ids that may begin or end a block here: 2 at the top, and none in a BLOCKINFO block.
     #[inline(always)]
-    fn id_width(&self) -> Option<u32> {
+    fn id_width(&self) -> Option<u32>
+        ensures inside { IfSome result (λ width. InBlock self.now (λ f outer.
+            (f.info ≡ None) × (width ≡ f.head.width))) }
+        ensures top { IfSome result (λ width. vec_len self.now.frames ≡ 0 → width ≡ 2) }
+        ensures least { IfSome result (λ width. 1 ≤ width) }
+        ensures most { IfSome result (λ width. width ≤ 32) }
+    {
         match self.frames.last() {
             None => Some(2),
             Some(frame) => {
@@ -224,7 +233,12 @@ impl Machine {
         loaded: &mut u64,
         limits: &Limits,
         first: u64,
-    ) -> Result<Option<Step>, AllocError> {
+    ) -> Result<Option<Step>, AllocError>
+        requires { 160 ≤ length (placed bits).bits }
+        ensures { IfOk result (λ found. StepsHere (open_block limits.now
+            (frames_shown self.old.frames.items) first (handed_shown self.old)) limits.now.depth
+            self.old (placed bits.entry) found self.new) }
+    {
         if self.frames.len() >= limits.depth() as usize {
             return Ok(None);
         }
@@ -243,7 +257,14 @@ impl Machine {
 
     /// Ends the innermost block; the bits are those after the id.
     #[inline(always)]
-    fn end_placed(&mut self, bits: PlacedBits<'_>, loaded: &mut u64) -> Option<Step> {
+    fn end_placed(&mut self, bits: PlacedBits<'_>, loaded: &mut u64) -> Option<Step>
+        requires { 160 ≤ length (placed bits).bits }
+        ensures steps { (deepest : ℕ) → InBlock self.old (λ f outer. f.info ≡ None
+            → StepsHere (end_rule f outer (handed_shown self.old)) deepest self.old
+            (placed bits.entry) result self.new) }
+        ensures outside { vec_len self.old.frames ≡ 0 → IsNone result }
+        ensures stays { IfNone result (self.new ≡ self.old) }
+    {
         let frame = self.frames.last()?;
         let (after, held) = placed_end(bits, frame.head, *loaded)?;
         *loaded = held;
@@ -263,7 +284,13 @@ impl Machine {
         bits: PlacedBits<'_>,
         loaded: &mut u64,
         limits: &Limits,
-    ) -> Result<Option<Step>, AllocError> {
+    ) -> Result<Option<Step>, AllocError>
+        requires { 192 ≤ length (placed bits).bits }
+        ensures steps { IfOk result (λ found. StepsHere (step limits.now (machine_shown self.old))
+            limits.now.depth self.old (placed bits.entry) found self.new) }
+        ensures moves { IfOk result (λ found. IfSome found (λ step. (placed bits.entry).position
+            < bit_after step)) }
+    {
         let Some(width) = self.id_width() else {
             return Ok(None);
         };

@@ -6,4 +6,4 @@ pub returns-else-is_some-clause-inside : goal.returns-else-is_some-clause-inside
 returns-else-is_some-clause-inside c =
     let m = c.args.self.now in
     let items = rw c.deref.ensures.value at c.in-Some.ensures.item in
-    plain_width m (length m.frames.items - 1) c.in-Some.frame.now c.of-in-Some.result.bits (omega (arith, ltb-true 0 (length m.frames.items) (sym items.0))) items.1 (sym c.is_some.ensures ∙ c.if-is_some.false) c.of-in-Some.ensures
+    plain_width m (length m.frames.items - 1) c.in-Some.frame.now c.from.result (omega (arith, ltb-true 0 (length m.frames.items) (sym items.0))) items.1 (sym c.is_some.ensures ∙ c.if-is_some.false) c.from.ensures
