@@ -68,11 +68,13 @@ fn hand_on<G: Gatherer>(
     }
 }
 
-/// Gathers completely buffered records of the innermost block from a bit on, possibly none, and returns the bit after them.
+/// Gathers completely buffered records of the innermost block from a bit on, possibly none, and returns the bit after them. Whether
+/// the last ones are read depends on where the window ends: so it ends at `loaded`, as that of an exact reader.
 #[inline(always)]
 fn gather_innermost<G: Gatherer>(
     parts: BufferedParts<'_>,
     first: u64,
+    loaded: u64,
     machine: &mut Machine,
     limits: &Limits,
     gatherer: &mut G,
@@ -103,6 +105,7 @@ fn gather_innermost<G: Gatherer>(
     }
     let mut buffered = Buffered::new(parts);
     buffered.skip(first - parts.position());
+    buffered.divide(parts, loaded);
     gather_records(buffered, frame, limits, used, gatherer, values)
 }
 
@@ -151,7 +154,7 @@ fn gather_buffered<G: Gatherer>(
     let mut first = parts.position();
     *loaded = parts.loaded();
     loop {
-        first = gather_innermost(parts, first, machine, limits, gatherer, values)?;
+        first = gather_innermost(parts, first, *loaded, machine, limits, gatherer, values)?;
         *loaded = loaded_at(first, *loaded);
         let Some(bits) = PlacedBits::new(parts, first) else {
             return Ok(first);

@@ -1,32 +1,54 @@
-use Rattle.std.proofs.Common.{◌≡◌, ◌-◌, ◌∷◌, [], length, take, refl, sym, arith, ltb-true}
-use Rattle.std.proofs.lemmas.Result.{err_from_is_err_and}
-use Rattle.bit_fields.specs.Buffered.{beyond}
+use Rattle.std.proofs.Common.{◌≡◌, ◌-◌, ◌∷◌, [], length, take, refl, sym, ap, ◌∙◌, subst, arith, ltb-true}
+use Rattle.std.proofs.lemmas.Result.{IfOk-weaker, on_err_weaker}
+use Rattle.bit_fields.specs.Buffered.{BufferedBits, beyond}
+use Rattle.bit_fields.specs.BufferedParts.{bits_of_parts}
 use Rattle.bit_events.specs.FrameView.{frame_shown, frames_onto, frames_shown}
-use Rattle.bit_events.proofs.Blocks.{on_none, on_run}
+use Rattle.bit_events.specs.Runs.{GathersRun, GathersUpTo, StopsRun}
+use Rattle.bit_events.proofs.Blocks.{on_run, up_to_none}
 use Rattle.bit_events.proofs.Stepping.{frames-some}
 use Rattle.bit_events.proofs.folding.gather_innermost.Goals as goal
 
 pub returns-in_default-clause-gathers : goal.returns-in_default-clause-gathers
-returns-in_default-clause-gathers g c = on_none g.G.Gatherer.gathered c.args.limits.now c.args.machine.now c.args.buffered.now c.args.gatherer.now c.requires.aligned
+returns-in_default-clause-gathers g c = up_to_none g.G.Gatherer.gathered c.args.limits.now c.args.machine.now (beyond (bits_of_parts c.args.parts) (c.args.first - c.args.parts.position)) c.args.gatherer.now c.args.first (omega (arith, c.requires.least)) c.requires.aligned
 
 pub returns-then-is_some-clause-gathers : goal.returns-then-is_some-clause-gathers
-returns-then-is_some-clause-gathers g c = on_none g.G.Gatherer.gathered c.args.limits.now c.args.machine.now c.args.buffered.now c.args.gatherer.now c.requires.aligned
+returns-then-is_some-clause-gathers g c = up_to_none g.G.Gatherer.gathered c.args.limits.now c.args.machine.now (beyond (bits_of_parts c.args.parts) (c.args.first - c.args.parts.position)) c.args.gatherer.now c.args.first (omega (arith, c.requires.least)) c.requires.aligned
+
+pub divide-requires-clause-few : goal.divide-requires-clause-few
+divide-requires-clause-few g c =
+    let skipped : c.skip.new.self ≡ beyond (bits_of_parts c.args.parts) (c.args.first - c.args.parts.position) = c.skip.ensures.skipped ∙ rw (c.new-buffered.ensures, c.position.ensures) refl in
+    omega (arith, ap (λ (b : BufferedBits). b.position) skipped, c.requires.there)
+
+pub divide-requires-clause-here : goal.divide-requires-clause-here
+divide-requires-clause-here g c =
+    let skipped : c.skip.new.self ≡ beyond (bits_of_parts c.args.parts) (c.args.first - c.args.parts.position) = c.skip.ensures.skipped ∙ rw (c.new-buffered.ensures, c.position.ensures) refl in
+    let place : c.skip.new.self.position - c.args.parts.position ≡ c.args.first - c.args.parts.position = omega (arith, ap (λ (b : BufferedBits). b.position) skipped) in
+    skipped ∙ ap (beyond (bits_of_parts c.args.parts)) (sym place)
 
 pub returns-clause-gathers : goal.returns-clause-gathers
 returns-clause-gathers g c =
     let m = c.args.machine.now in
-    let a = c.args.buffered.now in
+    let from = beyond (bits_of_parts c.args.parts) (c.args.first - c.args.parts.position) in
+    let f = c.in-Some.frame.now in
+    let used = c.gather_records.new.used in
+    let h = c.gather_records.new.gatherer in
     let k = length m.frames.items - 1 in
     let items = rw c.deref.ensures.value at c.in-Some.ensures.item in
-    let split : frames_shown m.frames.items ≡ frame_shown c.in-Some.frame.now ∷ frames_onto (take k m.frames.items) [] = frames-some m.frames.items k c.in-Some.frame.now (omega (arith, m.frames.ok.0, ltb-true 0 (length m.frames.items) (sym items.0))) items.1 in
-    let skipped : c.skip.new.self ≡ beyond a (c.in_ok-after.after - a.position) = rw c.position.ensures at c.skip.ensures.skipped in
-    on_run g.G.Gatherer.gathered c.args.limits.now c.in-Some.frame.now m (frames_onto (take k m.frames.items) []) a c.args.gatherer.now c.gather_records.new.used c.in_ok-after.after c.gather_records.new.gatherer c.skip.new.self split (rw c.copy.ensures at c.in_ok-after.ensures.gathers) skipped
+    let split : frames_shown m.frames.items ≡ frame_shown f ∷ frames_onto (take k m.frames.items) [] = frames-some m.frames.items k f (omega (arith, m.frames.ok.0, ltb-true 0 (length m.frames.items) (sym items.0))) items.1 in
+    let here : c.divide.new.self ≡ from = c.divide.ensures ∙ c.skip.ensures.skipped ∙ rw (c.new-buffered.ensures, c.position.ensures) refl in
+    IfOk-weaker c.gather_records.result (λ after. GathersRun g.G.Gatherer.gathered c.args.limits.now f m.used c.divide.new.self c.args.gatherer.now used after h) (λ after. GathersUpTo g.G.Gatherer.gathered c.args.limits.now m from c.args.gatherer.now (record m { used = used }) after h)
+    (λ after run. on_run g.G.Gatherer.gathered c.args.limits.now f m (frames_onto (take k m.frames.items) []) from c.args.gatherer.now used after h split (subst (λ (b : BufferedBits). GathersRun g.G.Gatherer.gathered c.args.limits.now f m.used b c.args.gatherer.now used after h) here run))
+    c.gather_records.ensures.gathers
 
-pub returns-in_err-after-clause-stops : goal.returns-in_err-after-clause-stops
-returns-in_err-after-clause-stops g c =
+pub returns-clause-stops : goal.returns-clause-stops
+returns-clause-stops g c =
     let m = c.args.machine.now in
+    let from = beyond (bits_of_parts c.args.parts) (c.args.first - c.args.parts.position) in
+    let f = c.in-Some.frame.now in
     let k = length m.frames.items - 1 in
     let items = rw c.deref.ensures.value at c.in-Some.ensures.item in
-    let split : frames_shown m.frames.items ≡ frame_shown c.in-Some.frame.now ∷ frames_onto (take k m.frames.items) [] = frames-some m.frames.items k c.in-Some.frame.now (omega (arith, m.frames.ok.0, ltb-true 0 (length m.frames.items) (sym items.0))) items.1 in
-    let p = err_from_is_err_and c.from_residual.result c.from_residual.ensures.1 in
-    rw p.1 (λ r sees. (rw c.copy.ensures at c.in_err-after.ensures.stops) m (frames_onto (take k m.frames.items) []) split refl r sees)
+    let split : frames_shown m.frames.items ≡ frame_shown f ∷ frames_onto (take k m.frames.items) [] = frames-some m.frames.items k f (omega (arith, m.frames.ok.0, ltb-true 0 (length m.frames.items) (sym items.0))) items.1 in
+    let here : c.divide.new.self ≡ from = c.divide.ensures ∙ c.skip.ensures.skipped ∙ rw (c.new-buffered.ensures, c.position.ensures) refl in
+    on_err_weaker c.gather_records.result
+    (λ stops. (subst (λ (b : BufferedBits). StopsRun g.G.Gatherer.gathered g.G.Gatherer.fails c.args.limits.now f m.used b c.args.gatherer.now c.gather_records.new.gatherer) here stops) m (frames_onto (take k m.frames.items) []) split refl)
+    c.gather_records.ensures.stops
