@@ -1,5 +1,5 @@
 -- What passing over a record says of reading it.
-use Rattle.std.proofs.Common.{◌≡◌, ℕ, zero, suc, ◌+◌, ◌*◌, ◌-◌, ◌^◌, ◌<◌, ◌≤◌, Bool, List, [], ◌∷◌, ◌++◌, length, take, drop, Result, Ok, Err, refl, sym, ap, ◌∙◌, subst, arith}
+use Rattle.std.proofs.Common.{◌≡◌, ℕ, zero, suc, ◌+◌, ◌*◌, ◌-◌, ◌^◌, ◌<◌, ◌≤◌, Bool, List, [], ◌∷◌, ◌++◌, length, take, drop, Result, Ok, refl, sym, ap, ◌∙◌, subst, arith}
 use Rattle.std.specs.List.{AllByRecursion}
 use Rattle.std.proofs.Math.Nat.{mul-le-mul}
 use Rattle.std.proofs.lemmas.Bool.{le-leb}
@@ -7,13 +7,12 @@ use Rattle.std.proofs.lemmas.List.{length-append, length-drop}
 use Rattle.bit_grammar.specs.declared.op.Op.{Op}
 use Rattle.bit_grammar.specs.declared.op.Op.TheVariants.{Literal, Fixed, Vbr, Array, Char6, Blob}
 use Rattle.bit_grammar.specs.Bits.{number}
-use Rattle.bit_grammar.specs.Grammar.{Grammar, Fault, Spells, repeat, reading}
+use Rattle.bit_grammar.specs.Grammar.{Fault, repeat}
 use Rattle.bit_grammar.specs.Fields.{vbr, chunks}
 use Rattle.bit_grammar.specs.Record.{scalar, singles, value_count, values_of, abbreviated, unabbreviated}
-use Rattle.bit_grammar.specs.Terms.{CodeAndValues}
 use Rattle.bit_grammar.proofs.Bits.Numbers.{number_below}
 use Rattle.bit_grammar.proofs.Readings.Deciding.{position-first}
-use Rattle.bit_grammar.proofs.Words.Fields.{AreChunks, chunks_are, joined, length-chunked}
+use Rattle.bit_grammar.proofs.Words.Fields.{chunks_are, joined, length-chunked}
 use Rattle.bit_fields.specs.Buffered.{BufferedBits, Reads, beyond}
 use Rattle.bit_fields.specs.Placed.{HasNumbers}
 use Rattle.bit_fields.proofs.BufferedReads.{reads_forward, reads_there, reads_passed}

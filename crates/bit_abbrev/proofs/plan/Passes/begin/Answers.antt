@@ -1,8 +1,6 @@
 use Rattle.std.proofs.Common.{◌≡◌, ◌+◌, ◌<◌, List, ◌++◌, ◌∷◌, [], take, length, subst, sym, refl, arith}
 use Rattle.std.proofs.lemmas.List.{take_more_set}
-use Rattle.bit_grammar.specs.declared.op.Op.{Op}
 use Rattle.bit_abbrev.specs.declared.plan.Pass.{Pass}
-use Rattle.bit_fields.specs.Buffered.{BufferedBits}
 use Rattle.bit_abbrev.specs.Plans.{HasPasses, HasValues}
 use Rattle.bit_grammar.specs.declared.op.Op.TheVariants.{Vbr}
 use Rattle.bit_abbrev.proofs.Covering.{covers_new}

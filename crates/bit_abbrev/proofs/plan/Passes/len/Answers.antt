@@ -1,4 +1,4 @@
-use Rattle.std.proofs.Common.{◌≡◌, ◌+◌, ◌<◌, length, get_or, ap, ◌∙◌, subst, arith}
+use Rattle.std.proofs.Common.{◌+◌, ◌<◌, length, get_or, ap, ◌∙◌, arith}
 use Rattle.bit_fields.specs.Buffered.{beyond}
 use Rattle.bit_fields.specs.PlacedView.{loaded}
 use Rattle.bit_fields.proofs.Placing.{length_at}

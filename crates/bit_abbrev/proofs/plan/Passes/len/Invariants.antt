@@ -1,4 +1,4 @@
-use Rattle.std.proofs.Common.{◌+◌, ◌-◌, ◌*◌, ◌<◌, ◌≤◌, length, take}
+use Rattle.std.proofs.Common.{◌+◌, ◌-◌, ◌*◌, ◌≤◌, length, take}
 use Rattle.bit_fields.specs.PlacedView.{loaded}
 use Rattle.bit_abbrev.specs.Plans.{HasPasses}
 use Rattle.bit_abbrev.proofs.plan.Passes.len.Given as goal

@@ -1,6 +1,6 @@
-use Rattle.std.proofs.Common.{subst, sym, ◌≤◌, length}
+use Rattle.std.proofs.Common.{subst, ◌≤◌, length}
 use Rattle.bit_fields.specs.Buffered.{BufferedBits}
-use Rattle.bit_fields.specs.PlacedView.{loaded, placed}
+use Rattle.bit_fields.specs.PlacedView.{loaded}
 use Rattle.bit_abbrev.specs.Plans.{HasArray}
 use Rattle.bit_abbrev.proofs.PassedRecords.{short_number}
 use Rattle.bit_abbrev.proofs.plan.Plan.array_len.Goals as goal

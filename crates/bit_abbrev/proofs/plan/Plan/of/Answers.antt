@@ -1,4 +1,3 @@
-use Rattle.std.proofs.Common.{arith}
 use Rattle.bit_grammar.specs.FormatDefinition.{op_at}
 use Rattle.bit_abbrev.specs.Operands.{others_of}
 use Rattle.bit_abbrev.proofs.PlanParts.{plan_made}

@@ -1,7 +1,7 @@
-use Rattle.std.proofs.Common.{◌≡◌, ◌+◌, ◌≤◌, length, take, sym, ap, ◌∙◌, subst, arith, rules}
+use Rattle.std.proofs.Common.{◌≡◌, ◌≤◌, length, sym, ap, ◌∙◌, subst, arith, rules}
 use Rattle.std.proofs.lemmas.List.{length-drop}
 use Rattle.bit_fields.specs.Buffered.{BufferedBits, beyond}
-use Rattle.bit_fields.specs.PlacedView.{loaded, placed}
+use Rattle.bit_fields.specs.PlacedView.{loaded}
 use Rattle.bit_fields.proofs.Placing.{length_at}
 use Rattle.bit_abbrev.specs.Plans.{HasArray, HasRest}
 use Rattle.bit_abbrev.specs.declared.plan.Rest.{Rest}

@@ -1,5 +1,5 @@
 use Rattle.std.proofs.Common.{◌≡◌, ◌-◌, ◌+◌, refl, ◌∙◌, subst, arith}
-use Rattle.bit_fields.specs.Buffered.{BufferedBits, beyond}
+use Rattle.bit_fields.specs.Buffered.{BufferedBits}
 use Rattle.bit_fields.specs.Placed.{HasNumbers}
 use Rattle.bit_fields.specs.PlacedView.{loaded}
 use Rattle.bit_fields.proofs.Placing.{length_at, has_both}
