@@ -125,6 +125,9 @@ step_opens limits m width first a b found n inside top is id steps = go (frames_
         (nested_opens limits f.head outer first scope (reader_at b) (reader_at b) (Ok value) (reader_at c) (judged (is_none f.info) (at NestedInBlockInfo first) (reader_at b) (ap is_none here.0) refl) took)))
         (rw split at steps))
 
+not_none : {A : Type 0} (x : A) → IsNone (Some x) → ⊥
+not_none x e = absurd cc
+
 -- its end
 pub step_ends : (limits : Limits) (m : Machine) (width : ℕ) (a b : BufferedBits) (found : Option Step) (n : Machine) → InBlock m (λ f outer. (f.info ≡ None) × (width ≡ f.head.width)) → Reads (fixed width) a 0 b → (vec_len m.frames ≡ 0 → IsNone found) → (IfNone found (n ≡ m)) → InBlock m (λ f outer. f.info ≡ None → StepsHere (end_rule f outer (handed_shown m)) limits.depth m b found n) → StepsHere (step limits (machine_shown m)) limits.depth m a found n
 step_ends limits m width a b None n inside id outside same steps = same
@@ -134,7 +137,7 @@ step_ends limits m width a b (Some found) n inside id outside same steps = go (f
     forward = reads_forward (fixed width) a 0 b id
 
     go : (frames : List machine.Frame) → frames_shown m.frames.items ≡ frames → StepsHere (step limits (machine_shown m)) limits.depth m a (Some found) n
-    go [] none = absurd (outside (m.frames.ok.0 ∙ none_shown m.frames.items none))
+    go [] none = absurd (not_none found (outside (m.frames.ok.0 ∙ none_shown m.frames.items none)))
     go (f ∷ outer) split =
         let here = inside f outer split in
         let scope = scope_of f (handed_shown m) in
@@ -148,6 +151,10 @@ step_ends limits m width a b (Some found) n inside id outside same steps = go (f
 pub moved_here : (rule : Grammar (Event × machine.Machine)) (deepest : ℕ) (m : Machine) (a b : BufferedBits) (found : Option Step) (n : Machine) → a.position < b.position → StepsHere rule deepest m b found n → IfSome found (λ step. a.position < bit_after step)
 moved_here rule deepest m a b None n moves steps = tt
 moved_here rule deepest m a b (Some found) n moves steps = omega (arith, moves, steps.1, (steps.2 []).leaves.forward)
+
+pub behind_id : (found : Option Step) (p q : ℕ) → p < q → IfSome found (λ step. q ≤ bit_after step) → IfSome found (λ step. p < bit_after step)
+behind_id None p q less after = tt
+behind_id (Some found) p q less after = omega (arith, less, after)
 
 -- ---- what is gathered
 

@@ -264,6 +264,7 @@ impl Machine {
             (placed bits.entry) result self.new) }
         ensures outside { vec_len self.old.frames ≡ 0 → IsNone result }
         ensures stays { IfNone result (self.new ≡ self.old) }
+        ensures moves { IfSome result (λ step. (placed bits.entry).position ≤ bit_after step) }
     {
         let frame = self.frames.last()?;
         let (after, held) = placed_end(bits, frame.head, *loaded)?;
