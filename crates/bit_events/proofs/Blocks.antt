@@ -93,14 +93,18 @@ none_if (Some x) isnt = absurd (isnt x refl)
 -- what follows an id
 later : (rule whole : Grammar (Event × machine.Machine)) (deepest : ℕ) (m : Machine) (a b : BufferedBits) (found : Option Step) (n : Machine) → a.position ≤ b.position → ((c : BufferedBits) (value : Event × machine.Machine) → Took rule (reader_at b) value (reader_at c) → Took whole (reader_at a) value (reader_at c)) → StepsHere rule deepest m b found n → StepsHere whole deepest m a found n
 later rule whole deepest m a b None n forward so same = same
-later rule whole deepest m a b (Some found) n forward so steps = (steps.0, steps.1, λ list.
-    let c = steps.0 in
-    let here = steps.2 list in
-    let value : Event × machine.Machine = (step_shown n list found, machine_shown n) in
-    record {
-      reads = took_reads whole a value c (so c value (reads_took rule b value c here.reads (reads_forward rule b value c here.reads)));
-      leaves = leaves_later (reader_at a) (reader_at b) (reader_at c) forward here.leaves;
-    })
+later rule whole deepest m a b (Some found) n forward so steps = (
+  steps.0,
+  steps.1,
+  λ list.
+      let c = steps.0 in
+      let here = steps.2 list in
+      let value : Event × machine.Machine = (step_shown n list found, machine_shown n) in
+      record {
+        reads = took_reads whole a value c (so c value (reads_took rule b value c here.reads (reads_forward rule b value c here.reads)));
+        leaves = leaves_later (reader_at a) (reader_at b) (reader_at c) forward here.leaves;
+      },
+)
 
 -- a block, at the top or in the innermost one, which is no BLOCKINFO block
 pub step_opens : (limits : Limits) (m : Machine) (width first : ℕ) (a b : BufferedBits) (found : Option Step) (n : Machine) → InBlock m (λ f outer. (f.info ≡ None) × (width ≡ f.head.width)) → (vec_len m.frames ≡ 0 → width ≡ 2) → first ≡ a.position → Reads (fixed width) a 1 b → StepsHere (open_block limits (frames_shown m.frames.items) first (handed_shown m)) limits.depth m b found n → StepsHere (step limits (machine_shown m)) limits.depth m a found n

@@ -19,7 +19,9 @@ use crate::gatherer::Gatherer;
 use crate::machine::{Machine, Step};
 use crate::running::{count_records, gather_records};
 use crate::with_first::WithFirst;
-use bit_fields::{BitReader, Buffered, BufferedParts, Fault, FieldWidth, Head, Limits, PlacedBits, Source};
+use bit_fields::{
+    BitReader, Buffered, BufferedParts, Fault, FieldWidth, Head, Limits, PlacedBits, Source,
+};
 use std::alloc::{AllocError, Global};
 
 /// The result of reading a whole input: its head, the gatherer of its events, and the bit after its stream.

@@ -159,11 +159,7 @@ pub(crate) fn end_of_block<S: Source>(
 /// The same of placed bits: the bit after the block, and up to which bit an exact reader has loaded bytes then. `None` leaves it to that
 /// reader.
 #[inline(always)]
-pub(crate) fn placed_end(
-    bits: PlacedBits<'_>,
-    head: BlockHead,
-    loaded: u64,
-) -> Option<(u64, u64)>
+pub(crate) fn placed_end(bits: PlacedBits<'_>, head: BlockHead, loaded: u64) -> Option<(u64, u64)>
     requires { 160 ≤ length (placed bits).bits }
     ensures reads { IfSome result (λ read. ReadsUpTo (end_of_block (head_shown head))
         (placed bits.entry) read.0 read.0) }

@@ -17,11 +17,15 @@ ghost use Rattle.bit_events.specs.MachineView.{handed_shown, machine_shown, newe
 use crate::event::{Event, RecordHead};
 use crate::frame::{Describing, Frame, define, record_after};
 use crate::head::BlockHead;
-use crate::heads::{block_head, end_of_block, loaded_by, or_memory_fault, placed_end, placed_head, shuts};
+use crate::heads::{
+    block_head, end_of_block, loaded_by, or_memory_fault, placed_end, placed_head, shuts,
+};
 use crate::running::{buffered_item, buffered_record};
 use crate::with_first::WithFirst;
 use bit_abbrev::{Abbrev, InForce, InfoTable, SharedInfo};
-use bit_fields::{BitReader, Buffered, Fault, FieldWidth, Limits, PlacedBits, Reason, Source, ValueTaker};
+use bit_fields::{
+    BitReader, Buffered, Fault, FieldWidth, Limits, PlacedBits, Reason, Source, ValueTaker,
+};
 use std::alloc::{AllocError, Global};
 
 /// How many values may come before those of a buffered record, so that all can be counted.
