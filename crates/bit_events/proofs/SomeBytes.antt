@@ -1,18 +1,15 @@
 -- The steps of a stream, after a head, are those of some bytes, whether the bytes of the source are known or not.
 use Rattle.std.proofs.Common.{◌≡◌, ℕ, ◌+◌, ◌*◌, ◌-◌, ◌/◌, ◌%◌, ◌^◌, ◌<◌, ◌≤◌, Bool, List, [], ◌++◌, length, Some, None, refl, sym, ap, subst, ◌∙◌, arith, append_assoc, inl, inr}
 use Rattle.std.proofs.lemmas.List.{append-nil, length-append}
-use Rattle.bit_grammar.specs.Bits.{bits_of_bytes}
 use Rattle.bit_grammar.specs.Grammar.{Spells}
-use Rattle.bit_grammar.specs.Marks.{Item, marks_of}
 use Rattle.bit_grammar.specs.Blocks.{Limits}
 use Rattle.bit_grammar.specs.Whole.{Whole, SpellsAll}
-use Rattle.bit_grammar.specs.Input.{wrapper_and_gap, top_blocks, stream, wrapped, input, marked_with, SpellsInput}
-use Rattle.bit_grammar.specs.Terms.{Wrapper, Head, Marked}
+use Rattle.bit_grammar.specs.Input.{stream, wrapped, input, marked_with}
+use Rattle.bit_grammar.specs.Terms.{Head, Marked}
 use Rattle.bit_grammar.specs.Machine.{Event, flat, Machine, at_start, accepted}
 use Rattle.bit_grammar.specs.Steps.{Leads, Steps}
 use Rattle.bit_grammar.proofs.Bits.Bytes.{bytes_of, BytesOf}
 use Rattle.bit_grammar.proofs.Events.Steps.{steps_after, steps_spelled}
-use Rattle.bit_grammar.proofs.NormalForms.SpelledParts.{Spelled}
 use Rattle.bit_fields.specs.Opening.{opening, end_of_stream}
 use Rattle.bit_events.proofs.Beginnings.{GapIs, gap_is, small}
 use Rattle.bit_events.proofs.WholeInputs.{Accepted}

@@ -304,8 +304,14 @@ reached a w c d e t u e_is =
       reads = λ k. rw (t.reads k, u.reads (t.goes_on.tells k)) refl;
       end = refl;
       limit = u.limit ∙ t.limit;
-      spells = let s = t.spells in (s.0, s.1, s.2, s.3, spells_then wrapper (λ w. any_bits (8 * (w.offset - 20)) >> gives w) s.1 c.position d.position w w s.4
-          (spells_then (any_bits (8 * (w.offset - 20))) (λ v. gives w) c.position d.position d.position tt w u.spells (spells_nothing w d.position)));
+      spells = let s = t.spells in (
+        s.0,
+        s.1,
+        s.2,
+        s.3,
+        spells_then wrapper (λ w. any_bits (8 * (w.offset - 20)) >> gives w) s.1 c.position d.position w w s.4
+            (spells_then (any_bits (8 * (w.offset - 20))) (λ v. gives w) c.position d.position d.position tt w u.spells (spells_nothing w d.position)),
+      );
     })
 
 magic_broke : (e : Extent) (outer : Option terms.Wrapper) (x : Result (ℕ × ℕ × List Bool) grammar.Fault) (reason : Reason) (bit : ℕ) → Breaks e x reason bit → Breaks e (with_magic outer x) reason bit

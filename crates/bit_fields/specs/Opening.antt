@@ -62,7 +62,7 @@ opening = do
   magic ← fixed 32
   choose (is_wrapped magic) (wrapper_and_gap >>= λ w. inner_magic >>= λ inner. gives
       (record { magic = inner; wrapper = Some w })) (
-    gives (record { magic = magic; wrapper = None }))
+      gives (record { magic = magic; wrapper = None }))
 
 -- the wrapper of an input with these bits, if there is one and its header is complete and lawful
 abbrev pub wrapper_read : Result (Option terms.Wrapper × ℕ × List Bool) grammar.Fault

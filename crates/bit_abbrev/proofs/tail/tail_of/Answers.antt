@@ -1,4 +1,3 @@
-use Rattle.std.proofs.Common.{arith}
 use Rattle.bit_abbrev.proofs.Records.{tail_array, tail_blob, tail_nothing}
 use Rattle.bit_abbrev.proofs.tail.tail_of.Goals as goal
 
