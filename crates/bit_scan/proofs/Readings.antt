@@ -88,8 +88,7 @@ unfolding fixed
 fixed_read n = next here λ first small. next (bits n _ small) λ s len. given (subst (λ (k : ℕ). number s < 2 ^ k) len (number_below s))
 
 pub fixed_64 : (n : ℕ) → n ≤ 64 → Reads (fixed n) Is64
-unfolding fixed
-fixed_64 n few = next here λ first small. next (bits n _ small) λ s len. given (omega (arith, number_below s, pow_mono (length s) 64 (omega (arith, len, few))))
+fixed_64 n few = weaker (λ v below. omega (arith, below, pow_mono n 64 few)) (fixed_read n)
 
 chunks_read : (payload first permitted places : ℕ) → first < 2 ^ 64 → Reads (chunks payload first permitted places) (λ v. v < 2 ^ places)
 chunks_read payload first zero places small = refused small
@@ -199,16 +198,20 @@ scalar_read Char6 lawful = char6_read
 scalar_read Array lawful = given (omega arith)
 scalar_read Blob lawful = given (omega arith)
 
+one_then : (room : ℕ) (op : Op) (others : List Op) → HasLawfulValue op → Reads (values_of room others) (AreFew (singles others + room))
+    → Reads (scalar op >>= λ value. values_of room others >>= λ values. gives (value ∷ values)) (AreFew (suc (singles others) + room))
+one_then room op others lawful rest = next (scalar_read op lawful) λ value small. next rest λ values few. given (fewer (omega arith) _ (one_more small few))
+
 values_read : (room : ℕ) (ops : List Op) → AllByRecursion HasLawfulValue ops → Reads (values_of room ops) (AreFew (singles ops + room))
 unfolding values_of
 values_read room [] lawful = given (record { count = omega arith; all = tt })
 values_read room (Array ∷ []) lawful = given (record { count = omega arith; all = tt })
 values_read room (Array ∷ element ∷ others) lawful = next (count_read room) λ count fits. weaker (fewer (omega (arith, fits))) (repeat_read count (scalar_read element lawful.1.0))
 values_read room (Blob ∷ others) lawful = next (count_read room) λ count fits. next align_read λ _ _. next (repeat_read count byte_read) λ values few. next align_read λ _ _. given (fewer (omega (arith, fits)) values few)
-values_read room (Literal v ∷ others) lawful = next (scalar_read (Literal v) lawful.0) λ value small. next (values_read room others lawful.1) λ values few. given (fewer (omega arith) _ (one_more small few))
-values_read room (Fixed width ∷ others) lawful = next (scalar_read (Fixed width) lawful.0) λ value small. next (values_read room others lawful.1) λ values few. given (fewer (omega arith) _ (one_more small few))
-values_read room (Vbr width ∷ others) lawful = next (scalar_read (Vbr width) lawful.0) λ value small. next (values_read room others lawful.1) λ values few. given (fewer (omega arith) _ (one_more small few))
-values_read room (Char6 ∷ others) lawful = next (scalar_read Char6 lawful.0) λ value small. next (values_read room others lawful.1) λ values few. given (fewer (omega arith) _ (one_more small few))
+values_read room (Literal v ∷ others) lawful = one_then room (Literal v) others lawful.0 (values_read room others lawful.1)
+values_read room (Fixed width ∷ others) lawful = one_then room (Fixed width) others lawful.0 (values_read room others lawful.1)
+values_read room (Vbr width ∷ others) lawful = one_then room (Vbr width) others lawful.0 (values_read room others lawful.1)
+values_read room (Char6 ∷ others) lawful = one_then room Char6 others lawful.0 (values_read room others lawful.1)
 
 pub abbreviated_read : (first room : ℕ) (ops : List Op) → first < 2 ^ 64 → AllByRecursion HasLawfulValue ops → Reads (abbreviated first room ops) (IsEntry room)
 unfolding abbreviated
