@@ -8,12 +8,12 @@ use Rattle.bit_grammar.specs.Fields.{fixed, align32}
 use Rattle.bit_fields.specs.declared.fault.Fault.{Fault}
 use Rattle.bit_fields.specs.declared.fault.Fault.TheVariants.{Memory}
 use Rattle.bit_fields.specs.Reader.{Reader, Took, Why, Takes, told_by, failed_reader}
-use Rattle.bit_fields.proofs.Composing.{fault_then, took_then, took_nothing, stops_here, stops_later, same_reading}
+use Rattle.bit_fields.proofs.Composing.{fault_then, spells_nothing, spells_then, took_then, took_nothing, stops_here, stops_later, same_reading}
 use Rattle.bit_abbrev.specs.Values.{Adds, Completes}
 
 -- a rule, and then a function of its value
 pub and_gives : {A B : Type 0} (rule : Grammar A) (f : A → B) (a : Reader) (result : Result A Fault) (c : Reader) → Takes rule a result c → Takes (rule >>= λ x. gives (f x)) a (told_by f result) c
-and_gives rule f a (Ok x) c t = record { was_live = t.was_live; live = t.live; goes_on = t.goes_on; forward = t.forward; end = t.end; limit = t.limit; extent = t.extent; reads = λ k. rw (t.reads k) refl }
+and_gives rule f a (Ok x) c t = record { was_live = t.was_live; live = t.live; goes_on = t.goes_on; forward = t.forward; end = t.end; limit = t.limit; extent = t.extent; reads = λ k. rw (t.reads k) refl; spells = spells_then rule (λ x. gives (f x)) a.position c.position c.position x (f x) t.spells (spells_nothing (f x) c.position) }
 and_gives rule f a (Err fault) c t = fault_then rule (λ x. gives (f x)) a fault c t
 
 -- out of memory, after what was taken

@@ -1,15 +1,28 @@
 -- Reading from the buffer, like a reader that has only the buffered bits.
-use Rattle.std.proofs.Common.{◌≡◌, ℕ, ◌+◌, ◌<◌, ◌≤◌, List, [], ◌∷◌, ◌++◌, length, Ok, refl, sym, ap, arith, length-append}
+use Rattle.std.proofs.Common.{◌≡◌, ℕ, ◌+◌, ◌<◌, ◌≤◌, List, [], ◌∷◌, ◌++◌, length, Option, Some, None, Result, Ok, Err, refl, sym, ap, subst, arith, length-append}
+use Rattle.std.specs.Prelude.{IfSome, OnSome}
 use Rattle.bit_grammar.specs.Grammar.{Grammar}
 use Rattle.bit_fields.specs.Buffered.{BufferedBits, Reads, reader_at}
-use Rattle.bit_fields.specs.Reader.{Reader, Took}
+use Rattle.bit_fields.specs.Reader.{Reader, Took, Takes}
+use Rattle.bit_fields.specs.declared.fault.Fault.{Fault}
 use Rattle.bit_fields.proofs.BufferedReads.{reads_took, reads_forward}
+use Rattle.bit_abbrev.specs.Bits.{Answers, IsHere}
 use Rattle.bit_abbrev.specs.Values.{Gains, AddsAll, PassesValues}
 use Rattle.bit_abbrev.proofs.Adding.{all_begin, all_go_on, all_done}
 use Rattle.bit_abbrev.proofs.Taking.{SoFar, passed}
 
 pub took_at : {A : Type 0} (rule : Grammar A) (a : BufferedBits) (value : A) (b : BufferedBits) → Reads rule a value b → Took rule (reader_at a) value (reader_at b)
 took_at rule a value b seen = reads_took rule a value b seen (reads_forward rule a value b seen)
+
+-- a field that is completely buffered
+pub here_took : {A M : Type 0} (rule : Grammar A) (a : BufferedBits) (found : Option A) (result : Result A M) (b : BufferedBits) → IfSome found (λ value. Reads rule a value b) → IsHere found result → Answers (λ (miss : M) (fault : Fault). ⊥) (λ r. Takes rule (reader_at a) r (reader_at b)) result
+here_took {A} {M} rule a (Some value) result b seen is = subst (λ (x : Result A M). Answers (λ (miss : M) (fault : Fault). ⊥) (λ r. Takes rule (reader_at a) r (reader_at b)) x) (sym is) (took_at rule a value b seen)
+here_took rule a None (Ok x) b seen is = absurd cc
+here_took rule a None (Err miss) b seen is = λ fault none. absurd none
+
+pub here_passed : {M : Type 0} (rule : Grammar (Unit {0})) (a : BufferedBits) (found : Option (Unit {0})) (result : Result (Unit {0}) M) (b : BufferedBits) → OnSome found (Reads rule a tt b) → IsHere found result → Answers (λ (miss : M) (fault : Fault). ⊥) (λ r. Takes rule (reader_at a) r (reader_at b)) result
+here_passed rule a (Some value) result b seen is = here_took rule a (Some value) result b seen is
+here_passed rule a None result b seen is = here_took rule a None result b tt is
 
 -- ---- values that are not used
 

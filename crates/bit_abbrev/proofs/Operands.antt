@@ -1,21 +1,84 @@
 -- Reading the operands of a definition, one after another.
-use Rattle.std.proofs.Common.{◌≡◌, ℕ, suc, ◌+◌, ◌-◌, ◌<◌, ◌≤◌, true, List, [], ◌∷◌, ◌++◌, length, Result, Ok, Err, refl, sym, ap, subst, arith, append_assoc}
+use Rattle.std.proofs.Common.{◌≡◌, ℕ, zero, suc, ◌+◌, ◌-◌, ◌<◌, ◌≤◌, Bool, true, not, ◌==◌, List, [], ◌∷◌, ◌++◌, length, Result, Ok, Err, refl, sym, ap, subst, arith, append_assoc}
 use Rattle.std.proofs.lemmas.List.{append-nil, length-append}
+use Rattle.std.proofs.lemmas.Bool.{lt-ltb, ne_eqb}
+use Rattle.std.specs.Prelude.{nat_lt}
 use Rattle.std.specs.List.{AllByRecursion}
 use Rattle.bit_grammar.specs.declared.shapes.Shapes.{Shapes}
 use Rattle.bit_grammar.specs.declared.op.Op.{Op}
 use Rattle.bit_grammar.specs.declared.op.Place.{Place}
 use Rattle.bit_grammar.specs.declared.op.Place.TheVariants.{First as first}
+use Rattle.bit_grammar.specs.declared.op.Op.TheVariants.{Fixed, Vbr}
 use Rattle.bit_grammar.specs.declared.op.Kind.{Kind}
-use Rattle.bit_grammar.specs.declared.reason.Reason.TheVariants.{AbbrevShape}
-use Rattle.bit_grammar.specs.Grammar.{at, gives, test, ◌>>=◌, ◌>>◌}
-use Rattle.bit_grammar.specs.Definition.{fits, passes, kind, valued, operand, place_after, operands}
+use Rattle.bit_grammar.specs.declared.op.Kind.TheVariants.{Literal as literal, Fixed as fixed_width, Vbr as vbr_width}
+use Rattle.bit_grammar.specs.declared.reason.Reason.TheVariants.{AbbrevEmpty, AbbrevShape, FieldWidth}
+use Rattle.bit_grammar.specs.Grammar.{Grammar, at, gives, position, choose, test, ◌>>=◌, ◌>>◌, reading}
+use Rattle.bit_grammar.specs.Fields.{fixed, vbr}
+use Rattle.bit_grammar.specs.Definition.{encoding, fits, passes, fixed_lawful, vbr_lawful, kind, valued, operand, place_after, operands, definition}
 use Rattle.bit_grammar.specs.FormatDefinition.{HasLawfulValue, Definable}
 use Rattle.bit_fields.specs.declared.fault.Fault.{Fault}
 use Rattle.bit_fields.specs.declared.fault.Fault.TheVariants.{Memory}
 use Rattle.bit_fields.specs.Reader.{Reader, Took, Why, Takes, told_by, failed_reader}
-use Rattle.bit_fields.proofs.Composing.{fault_then, took_then, took_nothing, from_here}
+use Rattle.bit_fields.proofs.Composing.{fault_then, first_chosen, from_here, holds_then, same_reading, second_chosen, took_nothing, took_then}
 use Rattle.bit_abbrev.proofs.Adding.{and_gives, memory_after}
+
+-- ---- one operand
+
+-- the kind of an operand after its flag
+abbrev after_flag : ℕ → Grammar Kind
+after_flag flag = choose (flag == 1) (gives literal) (position >>= λ first_bit. fixed 3 >>= λ n. encoding first_bit n)
+
+pub kind_literal : (a : Reader) (flag : ℕ) (b : Reader) → Took (fixed 1) a flag b → flag ≡ 1 → Took kind a literal b
+unfolding kind
+kind_literal a flag b t is =
+    took_then (fixed 1) after_flag a flag b (Ok literal) b t
+    (first_chosen (flag == 1) (gives literal) (position >>= λ first_bit. fixed 3 >>= λ n. encoding first_bit n) b (Ok literal) b (rw is refl) (took_nothing literal b t.live))
+
+-- the number n of the encoding is m
+pub kind_encoded : (a : Reader) (flag : ℕ) (b : Reader) (n m : ℕ) (c : Reader) (k : Kind) → Took (fixed 1) a flag b → (flag ≡ 1 → ⊥) → Took (fixed 3) b n c → n ≡ m → ((first p : ℕ) (r : List Bool) → reading (encoding first m) p r ≡ Ok (k, p, r)) → Took kind a k c
+unfolding kind
+kind_encoded a flag b n m c k t other u is same =
+    took_then (fixed 1) after_flag a flag b (Ok k) c t
+    (second_chosen (flag == 1) (gives literal) (position >>= λ first_bit. fixed 3 >>= λ n. encoding first_bit n) b (Ok k) c (ne_eqb flag 1 other)
+    (from_here (λ first_bit. fixed 3 >>= λ n. encoding first_bit n) b (Ok k) c
+    (took_then (fixed 3) (λ n. encoding b.position n) b m c (Ok k) c (subst (λ (x : ℕ). Took (fixed 3) b x c) is u)
+    (same_reading (gives k) (encoding b.position m) c (Ok k) c (λ p r. sym (same b.position p r)) (took_nothing k c u.live)))))
+
+-- an operand with a width that is lawful
+width_took : (holds : ℕ → Bool) (make : ℕ → Op) (a : Reader) (width : ℕ) (b : Reader) (first_bit : ℕ) (c : Reader) → first_bit ≡ a.position → Took (vbr 5) a width b → Took (test (holds width) (at FieldWidth first_bit)) b tt c
+    → Took (position >>= λ first_bit. vbr 5 >>= λ width. test (holds width) (at FieldWidth first_bit) >> gives (make width)) a (make width) c
+width_took holds make a width b first_bit c here t u =
+    from_here (λ first_bit. vbr 5 >>= λ width. test (holds width) (at FieldWidth first_bit) >> gives (make width)) a (Ok (make width)) c
+    (took_then (vbr 5) (λ width. test (holds width) (at FieldWidth a.position) >> gives (make width)) a width b (Ok (make width)) c t
+    (took_then (test (holds width) (at FieldWidth a.position)) (λ x. gives (make width)) b tt c (Ok (make width)) c (subst (λ (p : ℕ). Took (test (holds width) (at FieldWidth p)) b tt c) here u) (took_nothing (make width) c u.live)))
+
+pub fixed_took : (k : Kind) (a : Reader) (width : ℕ) (b : Reader) (first_bit : ℕ) (c : Reader) → k ≡ fixed_width → first_bit ≡ a.position → Took (vbr 5) a width b → Took (test (fixed_lawful width) (at FieldWidth first_bit)) b tt c → Took (valued k) a (Fixed width) c
+unfolding valued
+fixed_took k a width b first_bit c is here t u = rw is (width_took fixed_lawful (λ w. Fixed w) a width b first_bit c here t u)
+
+pub vbr_took : (k : Kind) (a : Reader) (width : ℕ) (b : Reader) (first_bit : ℕ) (c : Reader) → k ≡ vbr_width → first_bit ≡ a.position → Took (vbr 5) a width b → Took (test (vbr_lawful width) (at FieldWidth first_bit)) b tt c → Took (valued k) a (Vbr width) c
+unfolding valued
+vbr_took k a width b first_bit c is here t u = rw is (width_took vbr_lawful (λ w. Vbr w) a width b first_bit c here t u)
+
+-- an operand that may be there
+pub placed : (shapes : Shapes) (place : Place) (after first_bit : ℕ) (a : Reader) (k : Kind) (b c : Reader) (result : Result Op Fault) (d : Reader) → first_bit ≡ a.position → Took kind a k b → Took (test (passes shapes (fits place after k)) (at AbbrevShape first_bit)) b tt c → Takes (valued k) c result d → Takes (operand shapes place after) a result d
+unfolding operand
+placed shapes place after first_bit a k b c result d here t u v =
+    from_here (λ first_bit. kind >>= λ k. test (passes shapes (fits place after k)) (at AbbrevShape first_bit) >> valued k) a result d
+    (took_then kind (λ k. test (passes shapes (fits place after k)) (at AbbrevShape a.position) >> valued k) a k b result d t
+    (took_then (test (passes shapes (fits place after k)) (at AbbrevShape a.position)) (λ x. valued k) b tt c result d (subst (λ (p : ℕ). Took (test (passes shapes (fits place after k)) (at AbbrevShape p)) b tt c) here u) v))
+
+some_count : (count : ℕ) → not (count == 0) ≡ true → nat_lt 0 count ≡ true
+some_count zero e = absurd cc
+some_count (suc n) e = lt-ltb 0 (suc n) (omega arith)
+
+-- the operands after their number
+pub defined : (shapes : Shapes) (a : Reader) (count : ℕ) (b c : Reader) (ops : List Op) (d : Reader) → Took (vbr 5) a count b → not (count == 0) ≡ true → c ≡ b → Took (operands shapes count first) c ops d → Took (definition shapes) a ops d
+unfolding definition
+defined shapes a count b c ops d t some same u =
+    from_here (λ first_bit. vbr 5 >>= λ count. test (nat_lt 0 count) (at AbbrevEmpty first_bit) >> operands shapes count first) a (Ok ops) d
+    (took_then (vbr 5) (λ count. test (nat_lt 0 count) (at AbbrevEmpty a.position) >> operands shapes count first) a count b (Ok ops) d t
+    (holds_then (nat_lt 0 count) (at AbbrevEmpty a.position) (operands shapes count first) b (Ok ops) d (some_count count some) (subst (λ (x : Reader). Took (operands shapes count first) x ops d) same u)))
 
 -- an operand that may not be there
 pub misplaced : (shapes : Shapes) (place : Place) (after first_bit : ℕ) (a : Reader) (k : Kind) (b : Reader) (fault : Fault) (c : Reader) → first_bit ≡ a.position → Took kind a k b → Why (test (passes shapes (fits place after k)) (at AbbrevShape first_bit)) b fault c → Why (operand shapes place after) a fault c

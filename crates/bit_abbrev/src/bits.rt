@@ -126,6 +126,7 @@ impl<'a> Bits for Buffered<'a> {
         here(Buffered::char6(self))
     }
 
+    #[tactic(auto, using(crate::proofs::Buffered::here_passed))]
     #[inline(always)]
     fn pad(&mut self) -> Result<(), NotBuffered> {
         here(Buffered::pad(self))

@@ -1,17 +1,19 @@
 -- The next event of a stream is the first of its remaining events.
-use Rattle.std.proofs.Common.{◌≡◌, ℕ, ◌-◌, ◌^◌, ◌<◌, ◌≤◌, Bool, true, false, List, [], ◌∷◌, length, Option, Some, None, IsSome, Ok, Err, refl, sym, ap, subst, ◌∙◌, arith, vec_len}
+use Rattle.std.proofs.Common.{◌≡◌, ℕ, ◌+◌, ◌-◌, ◌%◌, ◌^◌, ◌<◌, ◌≤◌, Bool, true, false, List, [], ◌∷◌, length, Option, Some, None, IsSome, Ok, Err, refl, sym, ap, subst, ◌∙◌, arith, vec_len}
+use Rattle.std.proofs.lemmas.List.{append-nil}
 use Rattle.std.specs.Option.{option_map}
 use Rattle.bit_grammar.specs.Grammar as grammar
 use Rattle.bit_grammar.specs.Grammar.{at, reading}
 use Rattle.bit_grammar.specs.Blocks.{Limits}
 use Rattle.bit_grammar.specs.Machine as machine
 use Rattle.bit_grammar.specs.Machine.{Event, at_start, Ending, accepted, broke, Told, step, is_done, told_of_step, to_come}
-use Rattle.bit_grammar.specs.Steps.{AreWide}
+use Rattle.bit_grammar.specs.Steps.{AreWide, Leads}
 use Rattle.bit_grammar.specs.Input.{front_of}
 use Rattle.bit_grammar.specs.Normal.{Capped}
 use Rattle.bit_grammar.specs.Outlook.{outlook}
 use Rattle.bit_grammar.proofs.Events.Machines as machines
 use Rattle.bit_grammar.proofs.Events.Machines.{comes}
+use Rattle.bit_grammar.proofs.Events.Steps.{step_on}
 use Rattle.bit_fields.specs.declared.fault.Fault.{Fault}
 use Rattle.bit_fields.specs.declared.fault.Fault.TheVariants.{Refused, Read, Write, Memory, OutputTooLong, Failed}
 use Rattle.bit_fields.specs.declared.head.Head.{Head}
@@ -30,8 +32,8 @@ use Rattle.bit_events.specs.declared.machine.Step.TheVariants as found
 use Rattle.bit_events.specs.Coming.{held_after}
 use Rattle.bit_events.specs.MachineView.{machine_shown, definition_of, step_shown, step_lent, KeepsValues, HoldsDefinition, LeavesMachine}
 use Rattle.bit_events.specs.Coming.{over as over_stage}
-use Rattle.bit_events.specs.Coming.{failed, Goes, GivesEvent, EndsEvents, BreaksOff, StopsEvents, event_before, end_at, end_by, told_of}
-use Rattle.bit_events.specs.Next.{left_to_tell, FindsEvent, FindsEnd, FindsFault}
+use Rattle.bit_events.specs.Coming.{EndsStream, failed, Goes, GivesEvent, EndsEvents, BreaksOff, StopsEvents, event_before, end_at, end_by, told_of}
+use Rattle.bit_events.specs.Next.{LeadsOn, left_to_tell, FindsEvent, FindsEnd, FindsFault}
 use Rattle.bit_events.specs.Events.{stage_of, coming_of, IsEvents, Over, Shuts, Begun, DeclinesEvents}
 use Rattle.bit_events.proofs.Beginnings.{outlook_begun, outlook_declined}
 
@@ -54,7 +56,7 @@ pub none_shown : (frames : List Frame) → frames_shown frames ≡ [] → length
 none_shown [] e = refl
 none_shown (f ∷ frames) e = absurd (some_onto frames (frame_shown f) [] e)
 
-shown_none : (frames : List Frame) → length frames ≡ 0 → frames_shown frames ≡ []
+pub shown_none : (frames : List Frame) → length frames ≡ 0 → frames_shown frames ≡ []
 shown_none [] e = refl
 shown_none (f ∷ frames) e = absurd (omega (arith, e))
 
@@ -138,6 +140,37 @@ loses_after a b c p s = record { was_live = p.was_live; failed = s.failed; fails
 pub leaves_later : {deepest : ℕ} {old new : Machine} {event : Event} (a b c : Reader) → a.position ≤ b.position → LeavesMachine deepest old b event new c → LeavesMachine deepest old a event new c
 leaves_later a b c forward left = record { stands = left.stands; opens = left.opens; forward = omega (arith, forward, left.forward); aligned = left.aligned; holds = left.holds }
 
+-- the same of a reader that took nothing before
+pub leads_behind : (limits : Limits) (m n : Machine) (events : List Event) (a b c : Reader) → Stays a b → LeadsOn limits m b events n c → LeadsOn limits m a events n c
+leads_behind limits m n events a b c p on = record {
+  bits = on.bits;
+  leads = subst (λ (q : ℕ). Leads limits (machine_shown m) q on.bits events (machine_shown n)) p.position on.leads;
+  position = on.position ∙ ap (λ (q : ℕ). q + length on.bits) p.position;
+  end = on.end ∙ p.end;
+  limit = on.limit ∙ p.limit;
+}
+
+pub ends_behind : (a b : Reader) → Stays a b → EndsStream b → EndsStream a
+ends_behind a b p ends = record {
+  aligned = subst (λ (q : ℕ). q % 8 ≡ 0) p.position ends.aligned;
+  fills = record {
+    within = omega (arith, ends.fills.within, p.position, p.limit);
+    wrapped = λ low. omega (arith, ends.fills.wrapped (omega (arith, low, p.end)), p.position, p.end);
+  };
+}
+
+-- the bits of an event are those of one step
+leads_event : (limits : Limits) (m n : Machine) (event : Event) (a b : Reader) → Took (step limits (machine_shown m)) a (event, machine_shown n) b → LeadsOn limits m a (event ∷ []) n b
+leads_event limits m n event a b took =
+    let s = took.spells in
+    record {
+      bits = s.0;
+      leads = (s.0, [], machine_shown n, sym (append-nil s.0), (step_on limits (machine_shown m) (machine_shown n) a.position s.0 event (wide m.frames.items) s.1).0, s.1, (refl, refl));
+      position = s.2;
+      end = took.end;
+      limit = took.limit;
+    }
+
 -- an event was found
 pub finds_event : (limits : Limits) (m n : Machine) (event : Event) (a b c : Reader) → Ready m a b → Took (step limits (machine_shown m)) b (event, machine_shown n) c → LeavesMachine limits.depth m b event n c → FindsEvent limits m a event n c
 finds_event limits m n event a b c h took leaves = record {
@@ -146,6 +179,7 @@ finds_event limits m n event a b c h took leaves = record {
   pays = pays_both a b c h.0.goes_on took.goes_on;
   leaves = leaves_later a b c (omega (arith, h.0.position)) leaves;
   told = λ tells. event_told limits m n event a b c h took tells;
+  leads = leads_behind limits m n (event ∷ []) a b c h.0 (leads_event limits m n event b c took);
 }
 
 -- no event was found
@@ -163,6 +197,7 @@ finds_end limits m a c none over = record {
   stops = over.stops;
   position = over.position;
   outside = none;
+  ends = over.ends;
   same = refl;
   told = λ tells. (let o = over.told tells in shut_told limits m a (accepted a.position) none o.0 o.1);
   none = over.none;

@@ -49,7 +49,7 @@ record FieldsAre (w : Wrapper) (len : ℕ) : Type 0 where
   offset : w.offset < 2 ^ 32
   size : w.size < 2 ^ 32
 
-small : (p : ℕ) (s : List Bool) (v : ℕ) → Spells (fixed 32) p s v → (length s ≡ 32) × (v < 2 ^ 32)
+pub small : (p : ℕ) (s : List Bool) (v : ℕ) → Spells (fixed 32) p s v → (length s ≡ 32) × (v < 2 ^ 32)
 small p s v k =
     let f = fixed_is 32 p s v k in
     (f.length, subst (λ (x : ℕ). x < 2 ^ 32) (sym (f.value ∙ sum_is s)) (subst (λ (x : ℕ). number s < 2 ^ x) f.length (number_below s)))
@@ -93,12 +93,12 @@ unfolding any_bits
 any_length n p s v k = (let a = image (from_here k) in let bits = a.one.is in ap length bits.0 ∙ bits.1)
 
 -- the wrapper and its gap end where its stream begins
-record GapIs (w : Wrapper) (len : ℕ) : Type 0 where
-  ends : 32 + len ≡ 8 * w.offset
-  offset : w.offset < 2 ^ 32
-  size : w.size < 2 ^ 32
+pub record GapIs (w : Wrapper) (len : ℕ) : Type 0 where
+  pub ends : 32 + len ≡ 8 * w.offset
+  pub offset : w.offset < 2 ^ 32
+  pub size : w.size < 2 ^ 32
 
-gap_is : (p : ℕ) (s : List Bool) (w : Wrapper) → Spelled wrapper_and_gap p s w → GapIs w (length s)
+pub gap_is : (p : ℕ) (s : List Bool) (w : Wrapper) → Spelled wrapper_and_gap p s w → GapIs w (length s)
 unfolding wrapper_and_gap
 gap_is p s w k =
     let a = apart k in

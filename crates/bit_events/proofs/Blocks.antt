@@ -276,6 +276,7 @@ run_taken gathered limits m r g n h a b c on sees t place = record {
   forward = t.forward;
   aligned = λ none. rw place (all.aligned none);
   told = λ k. all.told k ∙ ap (λ (told : Told). (all.events ++ told.0, told.1)) (same_left limits n there c (t.extent k) (here k).0 (here k).1);
+  leads = record { bits = all.leads.bits; leads = all.leads.leads; position = place ∙ all.leads.position; end = t.end; limit = t.limit };
   gathers = all.gathers;
 }
   where

@@ -1,29 +1,33 @@
 -- Events that are gathered, one after another, up to the end of an input.
-use Rattle.std.proofs.Common.{◌≡◌, ℕ, ◌+◌, ◌%◌, ◌<◌, true, false, List, [], ◌∷◌, ◌++◌, Option, Some, None, IsSome, Result, Ok, Err, vec_len, refl, sym, ap, subst, ◌∙◌, arith, append_assoc, inl, inr}
-use Rattle.std.proofs.lemmas.List.{append-nil}
+use Rattle.std.proofs.Common.{◌≡◌, ℕ, ◌+◌, ◌%◌, ◌<◌, Bool, length, true, false, List, [], ◌∷◌, ◌++◌, Option, Some, None, IsSome, Result, Ok, Err, vec_len, refl, sym, ap, subst, ◌∙◌, arith, append_assoc, inl, inr}
+use Rattle.std.proofs.lemmas.List.{append-nil, length-append}
 use Rattle.std.specs.Prelude.{OnErr, OnOk}
 use Rattle.std.specs.declared.alloc.AllocError.{AllocError}
 use Rattle.bit_grammar.specs.Grammar as grammar
 use Rattle.bit_grammar.specs.Grammar.{at}
 use Rattle.bit_grammar.specs.Blocks.{Limits}
-use Rattle.bit_grammar.specs.Machine.{Event, accepted, broke, Told}
-use Rattle.bit_grammar.specs.Steps.{MayStand, open_after}
+use Rattle.bit_grammar.specs.Machine.{Event, at_start, accepted, broke, Told}
+use Rattle.bit_grammar.specs.Machine as machine
+use Rattle.bit_grammar.specs.Normal.{Capped}
+use Rattle.bit_grammar.specs.Steps.{Leads, MayStand, open_after}
 use Rattle.bit_fields.specs.declared.fault.Fault.{Fault}
 use Rattle.bit_fields.specs.declared.fault.Fault.TheVariants.{Refused, Read, Write, Memory, OutputTooLong, Failed}
 use Rattle.bit_fields.specs.declared.head.Head.{Head}
 use Rattle.bit_fields.specs.Devices.{Incoming, known_bytes}
 use Rattle.bit_fields.specs.Reader.{Reader, TellsBytes, GoesOn, StopsReading, Loses, failed_reader}
 use Rattle.bit_fields.specs.Ending.{Stays}
-use Rattle.bit_fields.specs.Opening.{head_told}
+use Rattle.bit_fields.specs.Opening.{head_told, fresh, OpenedInput}
 use Rattle.bit_fields.proofs.InflowLaws.{Spends-refl, Spends-trans, Spends-none, Fails-none, fails_later}
 use Rattle.bit_events.specs.declared.machine.Machine.{Machine}
 use Rattle.bit_grammar.proofs.Events.Telling.{told_if_broken}
 use Rattle.bit_events.specs.Events.{coming_of, Begun}
-use Rattle.bit_events.specs.Folding.{GathersSome, GathersAll, GathersBefore, GathersFirst, MissesEvents, Gathered, GatheredSome}
+use Rattle.bit_events.specs.Folding.{GathersSome, GathersAll, GathersBefore, GathersFirst, MissesEvents, Gathered}
 use Rattle.bit_events.specs.Gathering.{open_behind, left_open, Gathers, Stops}
-use Rattle.bit_events.specs.Next.{left_to_tell, FindsEvent, FindsEnd, FindsFault}
+use Rattle.bit_events.specs.MachineView.{machine_shown}
+use Rattle.bit_events.specs.Next.{LeadsOn, left_to_tell, FindsEvent, FindsEnd, FindsFault}
 use Rattle.bit_events.specs.Reading.{Spent, ReadsWhole}
-use Rattle.bit_events.proofs.Advancing.{Ready, loses_both, pays_both}
+use Rattle.bit_events.proofs.Advancing.{Ready, loses_both, pays_both, shown_none}
+use Rattle.bit_events.proofs.SomeBytes.{some_bytes}
 use Rattle.bit_events.proofs.WholeInputs.{accepted_input}
 
 -- ---- open blocks
@@ -49,11 +53,34 @@ lost_each P Taken (Err e) holds = λ list took. holds
 -- ---- events, one after another
 
 pub stays_same : (a : Reader) → a.live ≡ true → Stays a a
-stays_same a live = record { was_live = live; live = live; goes_on = Spends-refl a.incoming a.budget; position = refl; extent = λ _. refl; left = λ _. refl }
+stays_same a live = record { was_live = live; live = live; goes_on = Spends-refl a.incoming a.budget; position = refl; end = refl; limit = refl; extent = λ _. refl; left = λ _. refl }
 
 -- a block is open
 pub in_block : (m : Machine) (a : Reader) → a.live ≡ true → 0 < vec_len m.frames → Ready m a a
 in_block m a live some = (stays_same a live, λ none. absurd (omega (arith, some, none)))
+
+leads_after : (limits : Limits) (m mid new : machine.Machine) (p : ℕ) (s t : List Bool) (events others : List Event) → Leads limits m p s events mid → Leads limits mid (p + length s) t others new → Leads limits m p (s ++ t) (events ++ others) new
+leads_after limits m mid new p s t [] others (empty, same) h =
+    let place : p + length s ≡ p = omega (arith, ap length empty) in
+    subst (λ (u : List Bool). Leads limits m p (u ++ t) others new) (sym empty) (subst (λ (n : ℕ). Leads limits m n t others new) place (subst (λ (x : machine.Machine). Leads limits x (p + length s) t others new) same h))
+leads_after limits m mid new p s t (event ∷ events) others k h =
+    let parts : s ++ t ≡ k.0 ++ (k.1 ++ t) = ap (λ (u : List Bool). u ++ t) k.3 ∙ append_assoc k.0 k.1 t in
+    let place : p + length s ≡ p + length k.0 + length k.1 = omega (arith, ap length k.3, length-append k.0 k.1) in
+    (k.0, k.1 ++ t, k.2, parts, k.4, k.5, leads_after limits k.2 mid new (p + length k.0) k.1 t events others k.6 (subst (λ (n : ℕ). Leads limits mid n t others new) place h))
+
+-- some steps, and then others
+leads_both : (limits : Limits) (m : Machine) (a : Reader) (events : List Event) (n : Machine) (b : Reader) (others : List Event) (o : Machine) (c : Reader) → LeadsOn limits m a events n b → LeadsOn limits n b others o c → LeadsOn limits m a (events ++ others) o c
+leads_both limits m a events n b others o c one two = record {
+  bits = one.bits ++ two.bits;
+  leads = leads_after limits (machine_shown m) (machine_shown n) (machine_shown o) a.position one.bits two.bits events others one.leads
+      (subst (λ (p : ℕ). Leads limits (machine_shown n) p two.bits others (machine_shown o)) one.position two.leads);
+  position = omega (arith, one.position, two.position, length-append one.bits two.bits);
+  end = two.end ∙ one.end;
+  limit = two.limit ∙ one.limit;
+}
+
+leads_none : (limits : Limits) (m : Machine) (a : Reader) → LeadsOn limits m a [] m a
+leads_none limits m a = record { bits = []; leads = (refl, refl); position = omega arith; end = refl; limit = refl }
 
 -- no event
 pub none_yet : {G : Type 0} (gathered : G → List Event → G → Type 0) (limits : Limits) (m : Machine) (a : Reader) (g : G) → a.live ≡ true → (vec_len m.frames ≡ 0 → a.position % 8 ≡ 0) → GathersSome gathered limits m a g m a g
@@ -64,6 +91,7 @@ none_yet {G = G} gathered limits m a g live aligned = record {
   forward = omega arith;
   aligned = aligned;
   told = λ _. refl;
+  leads = leads_none limits m a;
   gathers = λ first done was count. (subst (λ (es : List Event). gathered first es g) (sym (append-nil done)) was, ap left_open (append-nil done) ∙ count);
 }
 
@@ -76,6 +104,7 @@ one_event gathered limits m a g event n b h finds gathers = record {
   forward = finds.leaves.forward;
   aligned = λ none. omega (arith, finds.leaves.aligned none);
   told = finds.told;
+  leads = finds.leads;
   gathers = λ first done was count. (
     gathers first done limits.depth was (subst (MayStand limits.depth event) (sym count) finds.leaves.stands),
     open_behind-push done event 0 ∙ ap (open_after event) count ∙ sym finds.leaves.opens,
@@ -91,6 +120,7 @@ some_then gathered limits m a g n b h o c k one two = record {
   forward = omega (arith, one.forward, two.forward);
   aligned = two.aligned;
   told = λ tells. one.told tells ∙ ap (λ (told : Told). (one.events ++ told.0, told.1)) (two.told (one.pays.tells tells)) ∙ ap (λ (events : List Event). (events, (left_to_tell limits o c).1)) (sym (append_assoc one.events two.events (left_to_tell limits o c).0));
+  leads = leads_both limits m a one.events n b two.events o c one.leads two.leads;
   gathers = λ first done was count.
       let here = one.gathers first done was count in
       let there = two.gathers first (done ++ one.events) here.0 here.1 in
@@ -207,6 +237,10 @@ none_left gathered limits m a g n b finds = record {
   stopped = finds.stops.failed;
   pays = finds.stops.goes_on;
   told = λ tells. finds.told tells ∙ ap (λ (p : ℕ). ([], accepted p)) (sym finds.position);
+  ended = a;
+  leads = subst (λ (o : Machine). LeadsOn limits m a [] o a) (sym finds.same) (leads_none limits m a);
+  ends = finds.ends;
+  position = finds.position;
   none = finds.none;
   gathers = λ first done was count. (subst (λ (es : List Event). gathered first es g) (sym (append-nil done)) was, ap left_open (append-nil done) ∙ count ∙ finds.outside);
 }
@@ -219,6 +253,10 @@ then_all gathered limits m a g n b h o c k some all = record {
   stopped = all.stopped;
   pays = pays_both a b c some.pays all.pays;
   told = λ tells. some.told tells ∙ ap (λ (told : Told). (some.events ++ told.0, told.1)) (all.told (some.pays.tells tells));
+  ended = all.ended;
+  leads = leads_both limits m a some.events n b all.events o all.ended some.leads all.leads;
+  ends = all.ends;
+  position = all.position;
   none = λ tells. all.none (some.pays.tells tells);
   gathers = λ first done was count.
       let here = some.gathers first done was count in
@@ -260,5 +298,21 @@ whole_gathered gathered limits i head m a g n b h after begun none is_after all 
     }
 
 -- whether the bytes of the source are known or not
-pub some_gathered : {G : Type 0} (gathered : G → List Event → G → Type 0) (limits : Limits) (m : Machine) (a : Reader) (g : G) (n : Machine) (b : Reader) (h : G) → gathered g [] g → vec_len m.frames ≡ 0 → GathersAll gathered limits m a g n b h → GatheredSome gathered g h
-some_gathered gathered limits m a g n b h none outside all = (let it = all.gathers g [] none (sym outside) in (all.events, it.0, it.1))
+pub some_gathered : {G : Type 0} (gathered : G → List Event → G → Type 0) (limits : Limits) (i : Incoming) (head : Head) (m : Machine) (a : Reader) (g : G) (n : Machine) (b : Reader) (h : G) (after : ℕ) → Capped limits → OpenedInput (fresh i limits.bytes) head a → machine_shown m ≡ at_start → vec_len m.frames ≡ 0 → gathered g [] g → after ≡ b.position → GathersAll gathered limits m a g n b h
+    → (bytes : List ℕ) × Gathered gathered limits bytes g (head_told head) h after
+some_gathered gathered limits i head m a g n b h after capped o shown outside none is_after all =
+    let on = all.leads in
+    let fills = all.ends.fills in
+    let start : Leads limits at_start a.position on.bits all.events (machine_shown n) = subst (λ (x : machine.Machine). Leads limits x a.position on.bits all.events (machine_shown n)) shown on.leads in
+    let closed : (machine_shown n).frames ≡ [] = shown_none n.frames.items (sym n.frames.ok.0 ∙ all.closed) in
+    let it = some_bytes limits (head_told head) a.position all.ended.extent.end all.ended.position o.spells.0 on.bits all.events (machine_shown n) o.spells.1 o.spells.2 start closed on.position (on.end ∙ o.end) fills.wrapped all.ends.aligned (omega (arith, fills.within, on.limit, o.limit)) in (
+      it.0,
+      record {
+        capped = capped;
+        marked = it.1.m;
+        spelled = it.1.spelled;
+        is_head = it.1.is_head;
+        is_after = it.1.ended ∙ sym (is_after ∙ all.position);
+        gathers = subst (λ (events : List Event). gathered g events h) it.1.flattened (all.gathers g [] none (sym outside)).0;
+      },
+    )

@@ -1,5 +1,5 @@
 -- Events of a slice: records that are read in place, and a reader that then catches up.
-use Rattle.std.proofs.Common.{◌≡◌, ℕ, ◌+◌, ◌-◌, ◌^◌, ◌<◌, ◌≤◌, min, Bool, true, false, List, [], ◌++◌, length, drop, Option, Some, None, Result, Ok, Err, refl, sym, ap, subst, ◌∙◌, arith, length-append, length-drop, vec_len}
+use Rattle.std.proofs.Common.{◌≡◌, ℕ, ◌+◌, ◌-◌, ◌^◌, ◌<◌, ◌≤◌, min, Bool, true, false, List, [], ◌∷◌, ◌++◌, length, drop, Option, Some, None, Result, Ok, Err, refl, sym, ap, subst, ◌∙◌, arith, length-append, length-drop, vec_len}
 use Rattle.bit_grammar.specs.Grammar as grammar
 use Rattle.bit_grammar.specs.Grammar.{reading}
 use Rattle.bit_grammar.specs.Input.{any_bits}
@@ -18,10 +18,10 @@ use Rattle.bit_events.specs.declared.machine.Step.{Step}
 use Rattle.bit_events.specs.declared.machine.Machine.{Machine}
 use Rattle.bit_events.specs.Coming.{GivesEvent}
 use Rattle.bit_events.specs.Events.{coming_of}
-use Rattle.bit_events.specs.MachineView.{machine_shown, record_of}
+use Rattle.bit_events.specs.MachineView.{machine_shown, record_of, step_shown}
 use Rattle.bit_events.specs.Next.{left_to_tell, FindsNext, FindsFault}
 use Rattle.bit_events.specs.SliceEvents.{reader_seen, SeesEvents}
-use Rattle.bit_events.proofs.Advancing.{Ready, pays_both, stops_after, loses_after, leaves_later, event_told, dead, IsLike}
+use Rattle.bit_events.proofs.Advancing.{Ready, pays_both, stops_after, loses_after, leaves_later, leads_behind, ends_behind, event_told, dead, IsLike}
 use Rattle.bit_events.proofs.Runs.{advanced_both}
 
 -- ---- records that are read in place
@@ -62,7 +62,7 @@ seen_given is_over limits head m n vs list found r a b id code first after live 
     taken = subst (λ (y : Reader). Took (step limits (machine_shown m)) x (event, machine_shown n) y) (advanced_both r (a.position - r.position) (b.position - a.position) (b.position - r.position) (omega (arith, s.behind live, forward))) (seen_took (step limits (machine_shown m)) x a (event, machine_shown n) b (s.sees live) seen).0
 
     ready : Ready m x x
-    ready = (record { was_live = live; live = live; goes_on = Spends-refl r.incoming r.budget; position = refl; extent = λ k. refl; left = λ k. refl }, λ none. absurd (omega (arith, some, none)))
+    ready = (record { was_live = live; live = live; goes_on = Spends-refl r.incoming r.budget; position = refl; end = refl; limit = refl; extent = λ k. refl; left = λ k. refl }, λ none. absurd (omega (arith, some, none)))
 
     place : x.position ≡ a.position
     place = omega (arith, s.behind live)
@@ -108,6 +108,8 @@ caught_up_to r a s live sees t place = record {
   live = t.live;
   goes_on = t.goes_on;
   position = place;
+  end = t.end;
+  limit = t.limit;
   extent = t.extent;
   left = λ k. caught r a s t (sees.there live k) k;
 }
@@ -126,6 +128,7 @@ finds_behind limits m n a b c list (Ok (Some step)) p (h, forward) = (
     pays = pays_both a b c p.goes_on h.pays;
     leaves = leaves_later a b c (omega (arith, p.position)) h.leaves;
     told = λ k. same_told limits m a b p k ∙ h.told (p.goes_on.tells k);
+    leads = leads_behind limits m n (step_shown n list step ∷ []) a b c p h.leads;
   },
   omega (arith, p.position, forward),
 )
@@ -133,6 +136,7 @@ finds_behind limits m n a b c list (Ok None) p h = record {
   stops = stops_after a b c p h.stops;
   position = h.position ∙ p.position;
   outside = h.outside;
+  ends = ends_behind a b p h.ends;
   same = h.same;
   told = λ k. same_told limits m a b p k ∙ h.told (p.goes_on.tells k) ∙ ap (λ (q : ℕ). ([], accepted q)) p.position;
   none = λ k. h.none (p.goes_on.tells k);

@@ -6,6 +6,7 @@ pub mod Advancing
 pub mod Beginnings
 pub mod Faults
 pub mod WholeInputs
+pub mod SomeBytes
 pub mod Folds
 pub mod Runs
 pub mod Blocks

@@ -1,7 +1,6 @@
 -- The rest of an input that is read event by event, as it is gathered.
-use Rattle.std.proofs.Common.{◌≡◌, ◌≤◌, arith, ℕ, Bool, true, false, List, [], ◌++◌, Option, None, Ok, Err, refl, sym, ap, subst, ◌∙◌, vec_len}
+use Rattle.std.proofs.Common.{◌≡◌, ◌≤◌, arith, ℕ, Bool, true, false, List, [], Option, None, Ok, Err, refl, sym, ap, subst, ◌∙◌, vec_len}
 use Rattle.std.proofs.lemmas.List.{append-nil}
-use Rattle.bit_grammar.specs.Grammar.{at}
 use Rattle.bit_grammar.specs.Blocks.{Limits}
 use Rattle.bit_grammar.specs.Machine.{Event, accepted}
 use Rattle.bit_fields.specs.declared.fault.Fault.{Fault}
@@ -11,7 +10,7 @@ use Rattle.bit_fields.specs.Reader.{Reader, StopsReading}
 use Rattle.bit_fields.proofs.InflowLaws.{Spends-refl}
 use Rattle.bit_events.specs.declared.machine.Machine.{Machine}
 use Rattle.bit_events.specs.declared.machine.Step.{Step}
-use Rattle.bit_events.specs.Coming.{Coming, StopsEvents, failed, going, over}
+use Rattle.bit_events.specs.Coming.{StopsEvents, failed}
 use Rattle.bit_events.specs.Events.{coming_of, stage_of, IsEvents}
 use Rattle.bit_events.specs.Folding.{EndsGathered, GathersAll, GathersRest, MissesEvents}
 use Rattle.bit_events.proofs.Advancing.{dead}

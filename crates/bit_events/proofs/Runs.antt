@@ -206,6 +206,7 @@ gathers_still gathered limits f used a g now_used b h k so stays = record {
           forward = some.forward;
           aligned = some.aligned;
           told = some.told;
+          leads = some.leads;
           gathers = λ first done was levels. (let all = some.gathers first done was levels in (stays first (done ++ some.events) all.0, all.1));
         },
         before.1,

@@ -1,5 +1,5 @@
 -- The rest of an input that is read event by event, and the effect of a call for the next event.
-use Rattle.std.specs.Prelude.{◌≡◌, ℕ, ◌*◌, ◌^◌, ◌<◌, ◌≤◌, List, [], ◌∷◌, Bool, if◌then◌else◌, Option, Some, None, IsSome, Result, Ok, Err}
+use Rattle.std.specs.Prelude.{◌≡◌, ℕ, ◌*◌, ◌%◌, ◌^◌, ◌<◌, ◌≤◌, List, [], ◌∷◌, Bool, if◌then◌else◌, Option, Some, None, IsSome, Result, Ok, Err}
 use Rattle.bit_grammar.specs.declared.reason.Reason.TheVariants.{TooLong}
 use Rattle.bit_grammar.specs.Grammar as grammar
 use Rattle.bit_grammar.specs.Grammar.{at}
@@ -10,8 +10,8 @@ use Rattle.bit_grammar.specs.Steps.{MayStand, open_after}
 use Rattle.bit_fields.specs.declared.fault.Fault.{Fault}
 use Rattle.bit_fields.specs.declared.fault.Fault.TheVariants.{Refused, Read, Write, Memory, OutputTooLong, Failed}
 use Rattle.bit_fields.specs.Devices.{Incoming, Spends, Fails, known_bytes}
-use Rattle.bit_fields.specs.Reader.{Extent, is_cut, within}
-use Rattle.bit_fields.specs.Ending.{verdict}
+use Rattle.bit_fields.specs.Reader.{Reader, Extent, is_cut, within}
+use Rattle.bit_fields.specs.Ending.{FillsStream, verdict}
 
 -- ---- how a stream ends, by how far it goes
 
@@ -31,6 +31,11 @@ end_by e (broke fault) = broke (within e fault.reason fault.bit)
 -- the remaining events of a stream of this extent, and their end
 abbrev pub told_of : Limits → Extent → Machine → ℕ → List Bool → Told
 told_of limits e m p left = (let told = to_come limits m p left in (told.0, end_by e told.1))
+
+-- a stream ends before this reader, at a whole byte within the limit on bytes, and fills its wrapper
+pub record EndsStream (r : Reader) : Type 0 where
+  pub aligned : r.position % 8 ≡ 0
+  pub fills : FillsStream r.extent r.position
 
 -- ---- an input that is read event by event
 

@@ -19,7 +19,7 @@ use Rattle.bit_events.specs.declared.machine.Step.{Step}
 use Rattle.bit_events.specs.declared.machine.Machine.{Machine}
 use Rattle.bit_events.specs.EventView.{lent, shown_if_any}
 use Rattle.bit_events.specs.MachineView.{machine_shown, step_lent}
-use Rattle.bit_events.specs.Coming.{Stage, going, over, failed, Coming, end_at, told_of, Goes}
+use Rattle.bit_events.specs.Coming.{EndsStream, Stage, going, over, failed, Coming, end_at, told_of, Goes}
 
 -- ---- the program's state
 
@@ -94,6 +94,7 @@ Finds old answer new = Goes old (answer_kept answer new) new
 pub record Over (old new : Reader) : Type 0 where
   pub stops : StopsReading old new
   pub position : new.position ≡ old.position
+  pub ends : EndsStream old
   pub told : TellsBytes old → (old.left ≡ [])
       × (end_at old.extent old.position ≡ accepted old.position)
   pub none : TellsBytes old → known_bytes new.incoming.to_come ≡ []

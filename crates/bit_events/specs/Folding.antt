@@ -12,9 +12,9 @@ use Rattle.bit_fields.specs.declared.fault.Fault.TheVariants.{Refused, Read, Wri
 use Rattle.bit_fields.specs.Devices.{known_bytes}
 use Rattle.bit_fields.specs.Reader.{Reader, TellsBytes, GoesOn, StopsReading, Loses}
 use Rattle.bit_events.specs.declared.machine.Machine.{Machine}
-use Rattle.bit_events.specs.Coming.{Coming, TellsComing, Pays, StopsEvents, LosesEvents, going, over, failed}
+use Rattle.bit_events.specs.Coming.{EndsStream, Coming, TellsComing, Pays, StopsEvents, LosesEvents, going, over, failed}
 use Rattle.bit_events.specs.Gathering.{left_open, Stops}
-use Rattle.bit_events.specs.Next.{left_to_tell}
+use Rattle.bit_events.specs.Next.{LeadsOn, left_to_tell}
 
 -- these events were read and gathered, and others are left
 pub record GathersSome {G : Type 0} (gathered : G → List Event → G → Type 0) (limits : Limits)
@@ -26,6 +26,7 @@ pub record GathersSome {G : Type 0} (gathered : G → List Event → G → Type 
   pub aligned : vec_len n.frames ≡ 0 → b.position % 8 ≡ 0
   pub told : TellsBytes a → left_to_tell limits m a
       ≡ (events ++ (left_to_tell limits n b).0, (left_to_tell limits n b).1)
+  pub leads : LeadsOn limits m a events n b
   pub gathers : (first : G) (done : List Event) → gathered first done g
       → left_open done ≡ vec_len m.frames → gathered first (done ++ events) h
       × (left_open (done ++ events) ≡ vec_len n.frames)
@@ -38,6 +39,11 @@ pub record GathersAll {G : Type 0} (gathered : G → List Event → G → Type 0
   pub stopped : b.live ≡ false
   pub pays : GoesOn a b
   pub told : TellsBytes a → left_to_tell limits m a ≡ (events, accepted b.position)
+  -- the reader where its stream ended
+  pub ended : Reader
+  pub leads : LeadsOn limits m a events n ended
+  pub ends : EndsStream ended
+  pub position : b.position ≡ ended.position
   pub none : TellsBytes a → known_bytes b.incoming.to_come ≡ []
   pub gathers : (first : G) (done : List Event) → gathered first done g
       → left_open done ≡ vec_len m.frames → gathered first (done ++ events) h
@@ -144,11 +150,6 @@ GathersRest gathered fails old g (Err Write) new h = ⊥
 GathersRest gathered fails old g (Err OutputTooLong) new h = ⊥
 
 -- ---- a whole input
-
--- it gathered some events, which leave no block open
-abbrev pub GatheredSome : {G : Type 0} → (G → List Event → G → Type 0) → (first last : G) → Type 0
-GatheredSome gathered first last = (events : List Event) × gathered first events last
-    × (left_open events ≡ 0)
 
 -- the bytes spell a marked tree with this head that ends before this bit, and its events were gathered
 pub record Gathered {G : Type 0} (gathered : G → List Event → G → Type 0) (limits : Limits)

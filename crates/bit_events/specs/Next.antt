@@ -1,20 +1,30 @@
 -- The next event of a stream, by a machine and a reader.
-use Rattle.std.specs.Prelude.{◌≡◌, ℕ, ◌<◌, true, List, [], vec_len, Option, Some, None, Result, Ok, Err}
+use Rattle.std.specs.Prelude.{◌≡◌, ℕ, ◌+◌, ◌<◌, Bool, true, List, [], ◌∷◌, length, vec_len, Option, Some, None, Result, Ok, Err}
 use Rattle.bit_grammar.specs.Grammar.{at}
 use Rattle.bit_grammar.specs.Blocks.{Limits}
 use Rattle.bit_grammar.specs.Machine.{Event, accepted, broke, Told}
+use Rattle.bit_grammar.specs.Steps.{Leads}
 use Rattle.bit_fields.specs.declared.fault.Fault.{Fault}
 use Rattle.bit_fields.specs.declared.fault.Fault.TheVariants.{Refused, Read, Write, Memory, OutputTooLong, Failed}
 use Rattle.bit_fields.specs.Devices.{known_bytes}
 use Rattle.bit_fields.specs.Reader.{Reader, TellsBytes, GoesOn, StopsReading, Loses}
 use Rattle.bit_events.specs.declared.machine.Machine.{Machine}
 use Rattle.bit_events.specs.declared.machine.Step.{Step}
-use Rattle.bit_events.specs.Coming.{event_before, told_of}
+use Rattle.bit_events.specs.Coming.{EndsStream, event_before, told_of}
 use Rattle.bit_events.specs.MachineView.{machine_shown, step_shown, LeavesMachine}
 
 -- the remaining events of the rest of a stream, and their end
 abbrev pub left_to_tell : Limits → Machine → Reader → Told
 left_to_tell limits m r = told_of limits r.extent (machine_shown m) r.position r.left
+
+-- some bits are the steps of these events, from the one reader's position to that of the other in the same stream
+pub record LeadsOn (limits : Limits) (m : Machine) (a : Reader) (events : List Event) (n : Machine)
+    (b : Reader) : Type 0 where
+  pub bits : List Bool
+  pub leads : Leads limits (machine_shown m) a.position bits events (machine_shown n)
+  pub position : b.position ≡ a.position + length bits
+  pub end : b.extent.end ≡ a.extent.end
+  pub limit : b.extent.limit ≡ a.extent.limit
 
 -- an event was found: the first of the remaining ones
 pub record FindsEvent (limits : Limits) (m : Machine) (a : Reader) (event : Event) (n : Machine)
@@ -24,6 +34,7 @@ pub record FindsEvent (limits : Limits) (m : Machine) (a : Reader) (event : Even
   pub pays : GoesOn a b
   pub leaves : LeavesMachine limits.depth m a event n b
   pub told : TellsBytes a → left_to_tell limits m a ≡ event_before event (left_to_tell limits n b)
+  pub leads : LeadsOn limits m a (event ∷ []) n b
 
 -- no event remained: the whole input is accepted, and its source has no byte left
 pub record FindsEnd (limits : Limits) (m : Machine) (a : Reader) (n : Machine)
@@ -31,6 +42,7 @@ pub record FindsEnd (limits : Limits) (m : Machine) (a : Reader) (n : Machine)
   pub stops : StopsReading a b
   pub position : b.position ≡ a.position
   pub outside : vec_len m.frames ≡ 0
+  pub ends : EndsStream a
   pub same : n ≡ m
   pub told : TellsBytes a → left_to_tell limits m a ≡ ([], accepted a.position)
   pub none : TellsBytes a → known_bytes b.incoming.to_come ≡ []

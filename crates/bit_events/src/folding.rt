@@ -4,7 +4,7 @@ ghost use Rattle.std.specs.Prelude.{◌≡◌, ◌<◌, ◌≤◌, ◌-◌, ◌%
 ghost use Rattle.bit_fields.specs.Buffered.{beyond};
 ghost use Rattle.bit_fields.specs.BufferedParts.{bits_of_parts, AreParts};
 ghost use Rattle.bit_fields.specs.Opening.{head_told};
-ghost use Rattle.bit_events.specs.Folding.{Lost, TakesRun, TakesNext, TakesAll, Gathered, GatheredSome};
+ghost use Rattle.bit_events.specs.Folding.{Lost, TakesRun, TakesNext, TakesAll, Gathered};
 ghost use Rattle.bit_events.specs.Gathering.{Gathers};
 ghost use Rattle.bit_events.specs.MachineView.{step_shown, HoldsDefinition, TookSome};
 ghost use Rattle.bit_events.specs.Reading.{ReadsWhole};
@@ -282,7 +282,7 @@ pub(crate) fn gather_rest<S: Source, G: Gatherer>(
 ///
 /// It takes no byte past the first one after the limit on bytes. `Refused` has the one reason and bit at which the input breaks the
 /// rules. The source is returned in its present state. Even if the bytes of the source are not known, the gathered events are those
-/// of some blocks, each of them closed.
+/// of a marked tree that some bytes spell.
 pub fn fold<S: Source, G: Gatherer + Drop>(
     alloc: Global,
     source: S,
@@ -293,7 +293,8 @@ pub fn fold<S: Source, G: Gatherer + Drop>(
     ensures whole { ReadsWhole (λ bytes folded. Gathered G.gathered limits bytes gatherer
         (head_told folded.head) folded.gatherer folded.after) limits (S.incoming source) result.0
         (S.incoming result.1) }
-    ensures some { IfOk result.0 (λ folded. GatheredSome G.gathered gatherer folded.gatherer) }
+    ensures some { IfOk result.0 (λ folded. (bytes : List ℕ) × Gathered G.gathered limits bytes gatherer
+        (head_told folded.head) folded.gatherer folded.after) }
 {
     // The cap of the limit is below 2^64 - 1, the end of a stream without a wrapper.
     let _bytes = limits.bytes();

@@ -351,7 +351,7 @@ fn gathered_text<S: Source + Drop>(
     };
     let answer = match PackedEvents::start(alloc, source, Limits::usual()) {
         Ok(mut events) => events.gather(&mut gatherer),
-        Err((fault, _)) => Err(fault),
+        Err((fault, _source)) => Err(fault),
     };
     let text = gatherer.text;
     match answer {

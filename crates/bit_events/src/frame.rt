@@ -141,7 +141,6 @@ fn describe_by<S: Source>(
 }
 
 /// Finds the described block after a record, if it is in a BLOCKINFO block.
-#[tactic(auto, using(crate::proofs::Framing::none_described))]
 fn describe<S: Source>(
     reader: &mut BitReader<S>,
     info: &mut Option<Describing>,

@@ -46,6 +46,8 @@ stays_so p f g kept = record {
   live = refl;
   goes_on = kept.spends;
   position = refl;
+  end = kept.end;
+  limit = kept.limit;
   extent = λ k. rw (kept.total k, kept.end, kept.limit) refl;
   left = kept.left;
 }

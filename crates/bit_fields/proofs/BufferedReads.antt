@@ -7,11 +7,11 @@ use Rattle.bit_grammar.specs.Input.{any_bits}
 use Rattle.bit_grammar.proofs.Readings.Deciding.{reads, is_spelled}
 use Rattle.bit_fields.specs.declared.fault.Fault.{Fault}
 use Rattle.bit_fields.specs.declared.fault.Fault.TheVariants.{Refused, Read, Write, Memory, OutputTooLong, Failed}
-use Rattle.bit_fields.specs.Reader.{Reader, TellsBytes, Breaks, Took, Why, Takes}
+use Rattle.bit_fields.specs.Reader.{Reader, TellsBytes, Breaks, SpellsTo, Took, Why, Takes}
 use Rattle.bit_fields.specs.Short.{TookNothing}
 use Rattle.bit_fields.specs.declared.buffered.BufferedParts.{BufferedParts}
 use Rattle.bit_fields.specs.BufferedParts.{bits_of_parts, Shown}
-use Rattle.bit_fields.proofs.Composing.{took_then, same_reading}
+use Rattle.bit_fields.proofs.Composing.{spells_read, took_then, same_reading}
 use Rattle.bit_fields.specs.Buffered.{BufferedBits, Reads, Sees, reader_further, reader_at, beyond}
 use Rattle.bit_fields.proofs.InflowLaws.{Spends-refl}
 use Rattle.bit_fields.proofs.Gap.{gap_whole}
@@ -28,6 +28,7 @@ reads_took rule a value b seen forward = record {
   limit = refl;
   extent = λ k. refl;
   reads = λ k. seen;
+  spells = spells_read rule a.position a.bits value b.position b.bits seen;
 }
 
 pub took_reads : {A : Type 0} (rule : Grammar A) (a : BufferedBits) (value : A) (b : BufferedBits) → Took rule (reader_at a) value (reader_at b) → Reads rule a value b
@@ -89,6 +90,8 @@ seen_took rule r a value b sees seen =
         extent = λ k. refl;
         reads = λ k. ap (reading rule r.position) (sees.front k).1 ∙ ap (λ (p : ℕ). reading rule p (a.bits ++ (sees.front k).0)) sees.position ∙ reads_before rule a value b seen (sees.front k).0
             ∙ rw (place, left k) refl;
+        spells = subst (λ (p : ℕ). SpellsTo rule p value (r.position + (b.position - a.position))) (sym sees.position)
+            (subst (λ (q : ℕ). SpellsTo rule a.position value q) (sym place) (spells_read rule a.position a.bits value b.position b.bits seen));
       },
       record { live = sees.live; position = place; front = λ k. ((sees.front k).0, left k) },
     )
@@ -101,6 +104,13 @@ any_whole count p r there = gap_whole count p p r there
 
 same_answer : (x y : (Unit {0}) × ℕ × List Bool) → ◌≡◌ {A = Result ((Unit {0}) × ℕ × List Bool) grammar.Fault} (Ok x) (Ok y) → (x.1 ≡ y.1) × (x.2 ≡ y.2)
 same_answer x y e = (cc, cc)
+
+any_spelled : (count p q : ℕ) → SpellsTo (any_bits count) p tt q → q ≡ p + count
+unfolding any_bits
+any_spelled count p q k =
+    let a = k.1 in
+    let b = a.5 in
+    omega (arith, k.2, ap length a.3, length-append a.0 a.1, ap length a.4.0, ap length b.3, length-append b.0 b.1, ap length b.4.0, b.4.1, ap length b.5.0)
 
 -- it took the bits that were seen
 pub caught_up : {A : Type 0} (rule : Grammar A) (r : Reader) (a : BufferedBits) (value : A) (b : BufferedBits) (s : Reader) → Sees r a → Reads rule a value b → Took (any_bits (b.position - a.position)) r tt s → Took rule r value s
@@ -115,6 +125,7 @@ caught_up rule r a value b s sees seen t =
       limit = t.limit;
       extent = t.extent;
       reads = λ k. let e = same_answer (tt, r.position + (b.position - a.position), drop (b.position - a.position) r.left) (tt, s.position, s.left) (sym (any_whole (b.position - a.position) r.position r.left (there k)) ∙ t.reads k) in first.0.reads k ∙ rw (e.0, e.1) refl;
+      spells = subst (λ (q : ℕ). SpellsTo rule r.position value q) (sym (any_spelled (b.position - a.position) r.position s.position t.spells)) first.0.spells;
     }
   where
     there : TellsBytes r → b.position - a.position ≤ length r.left

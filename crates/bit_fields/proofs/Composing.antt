@@ -1,13 +1,14 @@
 -- One call after another: together they take what their combined rule reads.
-use Rattle.std.proofs.Common.{◌≡◌, ℕ, ◌+◌, Bool, true, false, List, ◌++◌, length, Result, Ok, Err, refl, sym, ap, ◌∙◌, subst, arith, append_assoc}
+use Rattle.std.proofs.Common.{◌≡◌, ℕ, ◌+◌, Bool, true, false, List, [], ◌++◌, length, Result, Ok, Err, refl, sym, ap, ◌∙◌, subst, arith, append_assoc}
 use Rattle.std.proofs.lemmas.Bool.{false≢true}
+use Rattle.std.proofs.lemmas.List.{length-append}
 use Rattle.bit_grammar.specs.declared.reason.Reason.{Reason}
 use Rattle.bit_grammar.specs.Grammar as grammar
 use Rattle.bit_grammar.specs.Grammar.{Grammar, at, gives, position, test, choose, ◌>>=◌, ◌>>◌, ◌and_then◌, Spells, reading}
 use Rattle.bit_grammar.proofs.Readings.Deciding.{reads, is_spelled, one_value}
 use Rattle.bit_fields.specs.declared.fault.Fault.{Fault}
 use Rattle.bit_fields.specs.declared.fault.Fault.TheVariants.{Refused, Read, Write, Memory, OutputTooLong, Failed}
-use Rattle.bit_fields.specs.Reader.{Reader, Extent, Breaks, GoesOn, Took, StopsReading, Loses, Why, Takes, IsOnly, failed_reader}
+use Rattle.bit_fields.specs.Reader.{Reader, Extent, Breaks, GoesOn, SpellsTo, Took, StopsReading, Loses, Why, Takes, IsOnly, failed_reader}
 use Rattle.bit_fields.proofs.InflowLaws.{Spends-refl, Spends-trans, Spends-none, fails_later}
 
 pub goes_on_both : (a b c : Reader) → GoesOn a b → GoesOn b c → GoesOn a c
@@ -22,6 +23,27 @@ loses_later a b c was p q = record { was_live = was; failed = q.failed; fails = 
 -- a live reader that is made to fail
 pub stops_here : (a : Reader) → a.live ≡ true → StopsReading a (failed_reader a)
 stops_here a live = record { was_live = live; failed = refl; goes_on = Spends-none a.incoming a.budget a.incoming a.budget (Spends-refl a.incoming a.budget) }
+
+-- ---- bits that spell a value
+
+pub spells_nothing : {A : Type 0} (value : A) (p : ℕ) → SpellsTo (gives value) p value p
+spells_nothing value p = ([], (refl, refl), omega arith)
+
+-- what was read
+pub spells_read : {A : Type 0} (rule : Grammar A) (p : ℕ) (r : List Bool) (value : A) (q : ℕ) (rest : List Bool) → reading rule p r ≡ Ok (value, q, rest) → SpellsTo rule p value q
+spells_read rule p r value q rest read = (let own = is_spelled rule p r value q rest read in (own.0, own.3, own.2))
+
+pub spells_then : {A B : Type 0} (rule : Grammar A) (after : A → Grammar B) (p q n : ℕ) (v : A) (w : B) → SpellsTo rule p v q → SpellsTo (after v) q w n → SpellsTo (rule >>= after) p w n
+spells_then rule after p q n v w one two = (
+  one.0 ++ two.0,
+  (one.0, two.0, v, refl, one.1, subst (λ (k : ℕ). Spells (after v) k two.0 w) one.2 two.1),
+  omega (arith, one.2, two.2, length-append one.0 two.0),
+)
+
+spells_same : {A : Type 0} (f h : Grammar A) (p : ℕ) (v : A) (q : ℕ) → ((p : ℕ) (r : List Bool) → reading f p r ≡ reading h p r) → SpellsTo f p v q → SpellsTo h p v q
+spells_same f h p v q same one =
+    let own = spells_read h p (one.0 ++ []) v (p + length one.0) [] (sym (same p (one.0 ++ [])) ∙ reads f p one.0 v [] one.1) in
+    (own.0, own.1, one.2 ∙ own.2)
 
 breaks_on : {A B : Type 0} (e : Extent) (first : Result (A × ℕ × List Bool) grammar.Fault) (next : A × ℕ × List Bool → Result (B × ℕ × List Bool) grammar.Fault) (reason : Reason) (bit : ℕ) → Breaks e first reason bit → Breaks e (first and_then next) reason bit
 breaks_on e (Ok x) next reason bit b = absurd b
@@ -47,6 +69,7 @@ took_then rule after a value b (Ok w) c t u = record {
   limit = u.limit ∙ t.limit;
   extent = λ k. u.extent (t.goes_on.tells k) ∙ t.extent k;
   reads = λ k. rw (t.reads k) (u.reads (t.goes_on.tells k));
+  spells = spells_then rule after a.position b.position c.position value w t.spells u.spells;
 }
 took_then rule after a value b (Err (Refused reason bit)) c t u = (
   stops_later a b c t.was_live t.goes_on u.0,
@@ -85,11 +108,12 @@ took_nothing value a live = record {
   limit = refl;
   extent = λ k. refl;
   reads = λ k. refl;
+  spells = spells_nothing value a.position;
 }
 
 -- two rules that read the same
 pub same_reading : {A : Type 0} (f h : Grammar A) (a : Reader) (result : Result A Fault) (b : Reader) → ((p : ℕ) (r : List Bool) → reading f p r ≡ reading h p r) → Takes f a result b → Takes h a result b
-same_reading f h a (Ok value) b same t = record { was_live = t.was_live; live = t.live; goes_on = t.goes_on; forward = t.forward; end = t.end; limit = t.limit; extent = t.extent; reads = λ k. sym (same a.position a.left) ∙ t.reads k }
+same_reading f h a (Ok value) b same t = record { was_live = t.was_live; live = t.live; goes_on = t.goes_on; forward = t.forward; end = t.end; limit = t.limit; extent = t.extent; reads = λ k. sym (same a.position a.left) ∙ t.reads k; spells = spells_same f h a.position value b.position same t.spells }
 same_reading {A} f h a (Err (Refused reason bit)) b same t = (t.0, λ k. subst (λ (x : Result (A × ℕ × List Bool) grammar.Fault). Breaks a.extent x reason bit) (same a.position a.left) (t.1 k))
 same_reading f h a (Err Read) b same t = t
 same_reading f h a (Err Memory) b same t = t
@@ -99,7 +123,7 @@ same_reading f h a (Err OutputTooLong) b same t = t
 
 -- a rule that gets its position
 pub from_here : {A : Type 0} (after : ℕ → Grammar A) (a : Reader) (result : Result A Fault) (b : Reader) → Takes (after a.position) a result b → Takes (position >>= after) a result b
-from_here after a (Ok value) b t = record { was_live = t.was_live; live = t.live; goes_on = t.goes_on; forward = t.forward; end = t.end; limit = t.limit; extent = t.extent; reads = t.reads }
+from_here after a (Ok value) b t = record { was_live = t.was_live; live = t.live; goes_on = t.goes_on; forward = t.forward; end = t.end; limit = t.limit; extent = t.extent; reads = t.reads; spells = spells_then position after a.position a.position b.position a.position value ([], (refl, refl), omega arith) t.spells }
 from_here after a (Err (Refused reason bit)) b t = t
 from_here after a (Err Read) b t = t
 from_here after a (Err Memory) b t = t

@@ -1,7 +1,7 @@
 -- Skipped bits: the gap between a wrapper and its stream.
-use Rattle.std.proofs.Common.{◌≡◌, ℕ, ◌+◌, ◌-◌, ◌<◌, ◌≤◌, Bool, true, List, length, drop, Result, Ok, Err, refl, sym, ◌∙◌, subst, arith, inl, inr}
+use Rattle.std.proofs.Common.{◌≡◌, ℕ, ◌+◌, ◌-◌, ◌<◌, ◌≤◌, Bool, true, List, [], length, drop, replicate, Result, Ok, Err, refl, sym, ap, ◌∙◌, subst, arith, inl, inr}
 use Rattle.std.proofs.lemmas.Bool.{cases_lt, le-ltb, lt-ltb}
-use Rattle.std.proofs.lemmas.List.{length-drop}
+use Rattle.std.proofs.lemmas.List.{append-nil, length-drop, length-replicate}
 use Rattle.bit_grammar.specs.declared.reason.Reason.{Reason}
 use Rattle.bit_grammar.specs.declared.reason.Reason.TheVariants.{Truncated}
 use Rattle.bit_grammar.specs.Grammar as grammar
@@ -9,8 +9,9 @@ use Rattle.bit_grammar.specs.Grammar.{Grammar, at, ◌>>◌, reading}
 use Rattle.bit_grammar.specs.Input.{any_bits}
 use Rattle.bit_fields.specs.declared.fault.Fault.{Fault}
 use Rattle.bit_fields.specs.declared.fault.Fault.TheVariants.{Refused, Read, Write, Memory, OutputTooLong, Failed}
-use Rattle.bit_fields.specs.Reader.{Reader, TellsBytes, Breaks, Took, Why}
-use Rattle.bit_fields.specs.Inside.{gap_of, TookGap}
+use Rattle.bit_fields.specs.Reader.{Reader, TellsBytes, Breaks, SpellsTo, Took, Why}
+use Rattle.bit_fields.specs.Inflow.{Flow, flow_bits, Skips}
+use Rattle.bit_fields.specs.Inside.{gap_of, reader_of, TookGap}
 use Rattle.bit_fields.proofs.BitLaws.{drop_more}
 use Rattle.bit_fields.proofs.Composing.{took_then, same_reading, from_here}
 
@@ -35,6 +36,34 @@ gap_both n more first p r = elim (cases_lt (length r) n) [
 ]
 
 -- ---- what a step takes
+
+-- any bits are those of a gap
+gap_spelled : (first n p : ℕ) → SpellsTo (gap_of first n) p tt (p + n)
+gap_spelled first n p =
+    let s : List Bool = replicate n true in
+    let len : length s ≡ n = length-replicate n true in
+    (s, (s, [], s, sym (append-nil s), (refl, len), (refl, refl)), omega (arith, len))
+
+-- bits were skipped
+pub gap_taken : (field most count p : ℕ) (live : Bool) (f g : Flow) (now : Reader) → reader_of live p f ≡ now → now.live ≡ true → Skips f g count → count ≤ most → TookGap field most count now (reader_of live (p + count) g)
+gap_taken field most count p live f g now view is_live skips few =
+    let l : live ≡ true = ap (λ (r : Reader). r.live) view ∙ is_live in
+    rw (← view, l) (record {
+      some = skips.some;
+      few = few;
+      took = record {
+        was_live = refl;
+        live = refl;
+        goes_on = skips.spends;
+        forward = omega arith;
+        end = skips.end;
+        limit = skips.limit;
+        extent = λ k. rw (skips.total k, skips.end, skips.limit) refl;
+        reads = λ k. gap_whole count field p (flow_bits f) (skips.there k) ∙ rw (skips.left k) refl;
+        spells = gap_spelled field count p;
+      };
+      moves = refl;
+    })
 
 -- ---- the loop
 
@@ -65,6 +94,7 @@ gap_elsewhere n s t a b h = record {
     | inl short ↦ absurd (read_or_not (at Truncated s) (tt, b.position, b.left) (sym (gap_short n s a.position a.left short) ∙ h.reads k))
     | inr there ↦ gap_whole n t a.position a.left there ∙ sym (gap_whole n s a.position a.left there) ∙ h.reads k
   ];
+  spells = h.spells;
 }
 
 pub skipping_goes_on : (bits left field count : ℕ) (a b c : Reader) → Skipping bits left a b → TookGap field left count b c → Skipping bits (left - count) a c

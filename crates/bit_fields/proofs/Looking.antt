@@ -12,6 +12,7 @@ use Rattle.bit_fields.specs.Short.{TookNothing}
 use Rattle.bit_fields.specs.Buffered.{Sees}
 use Rattle.bit_fields.specs.BufferedParts.{bits_of_parts}
 use Rattle.bit_fields.proofs.BitLaws.{bits_of_bytes-append}
+use Rattle.bit_fields.proofs.Composing.{spells_nothing}
 use Rattle.bit_fields.proofs.InflowLaws.{kept}
 
 -- the first of the bytes that a source shows come after the window
@@ -49,6 +50,7 @@ looked_on p f j looked =
       limit = refl;
       extent = λ k. ap (λ (bytes : List ℕ). the_extent (record { total = f.loaded + length bytes; end = f.end; limit = f.limit })) (sym (same k));
       reads = λ k. ap (λ (bytes : List ℕ). Ok (tt {0}, p, f.window ++ bits_of_bytes (take (stop_of f - f.loaded) bytes))) (same k);
+      spells = spells_nothing (tt {0}) p;
     }
 
 pub looked_as : (live : Bool) (p : ℕ) (f g : Flow) (now : Reader) → live ≡ true → reader_of live p f ≡ now → LooksOn f g → TookNothing now (reader_of live p g)

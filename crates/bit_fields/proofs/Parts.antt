@@ -15,7 +15,7 @@ use Rattle.bit_fields.specs.Inflow.{Flow, stop_of, budget_of, KeepsFlow, Fills}
 use Rattle.bit_fields.specs.Reader.{Reader, Took, Why, Takes, stopped_at}
 use Rattle.bit_fields.specs.Inside.{part_of, reader_of, fault_of_missing}
 use Rattle.bit_fields.proofs.InflowLaws.{Spends-none}
-use Rattle.bit_fields.proofs.Composing.{fault_then, took_then, took_nothing, from_here}
+use Rattle.bit_fields.proofs.Composing.{fault_then, spells_read, took_then, took_nothing, from_here}
 
 -- ---- the reading
 
@@ -41,6 +41,7 @@ window_took rule value n p f g kept read = record {
   limit = kept.limit;
   extent = λ k. rw (kept.total k, kept.end, kept.limit) refl;
   reads = λ k. ap (reading rule p) (sym (kept.left k)) ∙ read (bits_of_bytes (take (stop_of g - g.loaded) (known_bytes g.incoming.to_come)));
+  spells = spells_read rule p (g.window ++ []) value (p + n) (drop n g.window ++ []) (read []);
 }
 
 -- a rule that is truncated if fewer than n bits are left

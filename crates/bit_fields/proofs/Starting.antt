@@ -1,5 +1,5 @@
 -- The beginning of an input.
-use Rattle.std.proofs.Common.{◌≡◌, ℕ, ◌+◌, ◌*◌, ◌-◌, ◌%◌, ◌^◌, ◌<◌, ◌≤◌, min, Bool, true, not, ◌&&◌, leb, eqb, List, length, take, Option, Some, None, Result, Ok, Err, refl, sym, ap, ◌∙◌, subst, arith, inl, inr}
+use Rattle.std.proofs.Common.{◌≡◌, ℕ, ◌+◌, ◌*◌, ◌-◌, ◌%◌, ◌^◌, ◌<◌, ◌≤◌, min, Bool, true, not, ◌&&◌, leb, eqb, List, [], length, take, Option, Some, None, Result, Ok, Err, refl, sym, ap, ◌∙◌, subst, arith, inl, inr}
 use Rattle.std.proofs.lemmas.Bool.{cases_lt, false≢true, le-ltb, lt-ltb, ne_eqb}
 use Rattle.std.proofs.lemmas.List.{length-take-le}
 use Rattle.std.proofs.Math.Nat.{mod-eq_of_lt}
@@ -9,7 +9,7 @@ use Rattle.bit_grammar.specs.declared.reason.Reason.TheVariants.{WrapperVersion,
 use Rattle.bit_grammar.specs.Forest.{wrapper_magic}
 use Rattle.bit_grammar.specs.Bits.{bits_of_bytes, number}
 use Rattle.bit_grammar.specs.Grammar as grammar
-use Rattle.bit_grammar.specs.Grammar.{Grammar, at, gives, position, test, ◌>>=◌, ◌>>◌, ◌and_then◌, reading}
+use Rattle.bit_grammar.specs.Grammar.{Grammar, at, gives, position, test, choose, ◌>>=◌, ◌>>◌, ◌and_then◌, reading}
 use Rattle.bit_grammar.specs.Fields.{fixed}
 use Rattle.bit_grammar.specs.Terms as terms
 use Rattle.bit_grammar.specs.Input.{version, offset, wrapper, any_bits, wrapper_and_gap, inner_magic, outer_wrapper, is_wrapped}
@@ -18,14 +18,14 @@ use Rattle.bit_fields.specs.declared.fault.Fault.TheVariants.{Refused, Read, Wri
 use Rattle.bit_fields.specs.declared.head.Wrapper.{Wrapper}
 use Rattle.bit_fields.specs.Devices.{Fails}
 use Rattle.bit_fields.specs.Inflow.{Flow, flow_bits, stop_of, flow_ended_at}
-use Rattle.bit_fields.specs.Reader.{Reader, Extent, TellsBytes, is_cut, Breaks, GoesOn, Loses, Took, Why, Takes, NeedsNoMemory}
+use Rattle.bit_fields.specs.Reader.{Reader, Extent, TellsBytes, is_cut, Breaks, GoesOn, Loses, SpellsTo, Took, Why, Takes, NeedsNoMemory}
 use Rattle.bit_fields.specs.Inside.{reader_of, IsReader}
-use Rattle.bit_fields.specs.Opening.{Beginning, with_magic, in_wrapper, beginning, wrapper_read, wrapper_of, wrapper_told, magic_number, end_of_stream, OpenedInput, LeavesSource, Declines}
+use Rattle.bit_fields.specs.Opening.{Beginning, with_magic, in_wrapper, beginning, opening, wrapper_read, wrapper_of, wrapper_told, magic_number, end_of_stream, OpenedInput, LeavesSource, Declines}
 use Rattle.bit_fields.specs.Ending.{reach_of}
 use Rattle.bit_fields.proofs.BitLaws.{le_bytes_bits_32, number-bits_mod}
 use Rattle.bit_fields.proofs.InflowLaws.{Spends-none, Fails-none, fails_later}
 use Rattle.bit_fields.proofs.Shortening.{left_shortened}
-use Rattle.bit_fields.proofs.Composing.{took_then, fault_then, took_nothing, from_here, goes_on_both}
+use Rattle.bit_fields.proofs.Composing.{spells_nothing, spells_then, took_then, fault_then, took_nothing, from_here, goes_on_both}
 use Rattle.bit_fields.proofs.Padding.{is_eqb}
 
 -- ---- the parts of a wrapper
@@ -153,13 +153,34 @@ fails_from a b c p q = Fails-none a.incoming a.budget c.incoming c.budget (fails
 read_first : (a : Reader) (first : ℕ) (b : Reader) → a.position ≡ 0 → Took (fixed 32) a first b → TellsBytes a → reading (fixed 32) 0 a.left ≡ Ok (first, b.position, b.left)
 read_first a first b at t k = subst (λ (p : ℕ). reading (fixed 32) p a.left ≡ Ok (first, b.position, b.left)) at (t.reads k)
 
+-- the rest of a head, after the first number
+abbrev in_stream : terms.Wrapper → Grammar terms.Head
+in_stream w = inner_magic >>= λ inner. gives (record { magic = inner; wrapper = Some w })
+
+abbrev in_input : ℕ → Grammar terms.Head
+in_input magic = choose (is_wrapped magic) (wrapper_and_gap >>= in_stream) (gives (record { magic = magic; wrapper = None }))
+
+abbrev magic_only : ℕ → terms.Head
+magic_only magic = record { magic = magic; wrapper = None }
+
+-- the first number of an input
+abbrev SpellsFirst : ℕ → ℕ → Type 0
+SpellsFirst first p = SpellsTo (fixed 32) 0 first p
+
+spells_first : (a : Reader) (first : ℕ) (b : Reader) → a.position ≡ 0 → Took (fixed 32) a first b → SpellsFirst first b.position
+spells_first a first b at t = subst (λ (p : ℕ). SpellsTo (fixed 32) p first b.position) at t.spells
+
 pub magic_took : (a : Reader) (first : ℕ) (magic : List ℕ) (b : Reader) → a.position ≡ 0 → a.extent.end ≡ 2 ^ 64 - 1 → Took (fixed 32) a first b → (first ≡ 0x0B17C0DE → ⊥) → first < 2 ^ 32 → magic ≡ to_le_bytes w32 first → OpenedInput a (record { magic = magic; wrapper = None }) b
-unfolding beginning
+unfolding beginning opening
 magic_took a first magic b at high t other below is = record {
   live = t.live;
   goes_on = t.goes_on;
   extent = λ k. subst (λ (e : ℕ). b.extent ≡ record a.extent { end = e }) high (t.extent k);
   reads = λ k. rw (read_first a first b at t k, ne_eqb first 0x0B17C0DE other, magic_is first magic below is) refl;
+  end = t.end ∙ high;
+  limit = t.limit;
+  spells = spells_then (fixed 32) in_input 0 b.position b.position first (record { magic = magic_number magic; wrapper = None }) (spells_first a first b at t)
+      ([], inr (ne_eqb first 0x0B17C0DE other, (refl, ap (λ (n : ℕ). magic_only n) (magic_is first magic below is))), omega arith);
 }
 
 -- a break at the first four bytes: the beginning and the search for a wrapper break alike
@@ -215,6 +236,8 @@ pub record Headed (a : Reader) (w : terms.Wrapper) (c : Reader) : Type 0 where
   pub extent : TellsBytes a → c.extent ≡ a.extent
   pub wrapped : TellsBytes a → wrapper_of a.left ≡ Some w
   pub reads : TellsBytes a → beginning a.left ≡ from_gap w c.position c.left
+  pub limit : c.extent.limit ≡ a.extent.limit
+  pub spells : (first p : ℕ) × (is_wrapped first ≡ true) × SpellsFirst first p × SpellsTo wrapper p w c.position
 
 pub headed : (a : Reader) (first : ℕ) (b : Reader) (w : terms.Wrapper) (c : Reader) → a.position ≡ 0 → Took (fixed 32) a first b → first ≡ 0x0B17C0DE → Took wrapper b w c → Headed a w c
 unfolding beginning wrapper_of outer_wrapper wrapper_and_gap
@@ -225,6 +248,8 @@ headed a first b w c at t is u = record {
   extent = λ k. u.extent (t.goes_on.tells k) ∙ t.extent k;
   wrapped = λ k. rw (read_first a first b at t k, is_eqb first 0x0B17C0DE is, u.reads (t.goes_on.tells k)) refl;
   reads = λ k. rw (read_first a first b at t k, is_eqb first 0x0B17C0DE is, u.reads (t.goes_on.tells k)) (gap_then w (reading (any_bits (8 * (w.offset - 20))) c.position c.left));
+  limit = u.limit ∙ t.limit;
+  spells = (first, b.position, is_eqb first 0x0B17C0DE is, spells_first a first b at t, u.spells);
 }
 
 -- if the input ends before a wrapper's stream begins, the input and the stream are past the limit alike
@@ -263,8 +288,12 @@ pub record Reached (a : Reader) (w : terms.Wrapper) (d : Reader) : Type 0 where
   pub extent : TellsBytes a → d.extent ≡ record a.extent { end = w.offset + w.size }
   pub wrapped : TellsBytes a → wrapper_of a.left ≡ Some w
   pub reads : TellsBytes a → beginning a.left ≡ with_magic (Some w) (reading inner_magic d.position d.left)
+  pub end : d.extent.end ≡ w.offset + w.size
+  pub limit : d.extent.limit ≡ a.extent.limit
+  pub spells : (first p : ℕ) × (is_wrapped first ≡ true) × SpellsFirst first p × SpellsTo wrapper_and_gap p w d.position
 
 pub reached : (a : Reader) (w : terms.Wrapper) (c d e : Reader) → Headed a w c → Took (any_bits (8 * (w.offset - 20))) c tt d → e ≡ record d { left = take (8 * w.size) d.left; extent = record d.extent { end = w.offset + w.size } } → Reached a w e
+unfolding wrapper_and_gap
 reached a w c d e t u e_is =
     let both = goes_on_both a c d t.goes_on u.goes_on in
     rw e_is (record {
@@ -273,6 +302,16 @@ reached a w c d e t u e_is =
       extent = λ k. ap (λ (x : Extent). record x { end = w.offset + w.size }) (u.extent (t.goes_on.tells k) ∙ t.extent k);
       wrapped = t.wrapped;
       reads = λ k. rw (t.reads k, u.reads (t.goes_on.tells k)) refl;
+      end = refl;
+      limit = u.limit ∙ t.limit;
+      spells = let s = t.spells in (
+        s.0,
+        s.1,
+        s.2,
+        s.3,
+        spells_then wrapper (λ w. any_bits (8 * (w.offset - 20)) >> gives w) s.1 c.position d.position w w s.4
+            (spells_then (any_bits (8 * (w.offset - 20))) (λ v. gives w) c.position d.position d.position tt w u.spells (spells_nothing w d.position)),
+      );
     })
 
 magic_broke : (e : Extent) (outer : Option terms.Wrapper) (x : Result (ℕ × ℕ × List Bool) grammar.Fault) (reason : Reason) (bit : ℕ) → Breaks e x reason bit → Breaks e (with_magic outer x) reason bit
@@ -291,9 +330,27 @@ inner_declines a w e Write f t why m = why
 inner_declines a w e OutputTooLong f t why m = why
 
 pub stream_begins : (a : Reader) (w : Wrapper) (e : Reader) (n : ℕ) (magic : List ℕ) (f : Reader) → Reached a (wrapper_told w) e → Took inner_magic e n f → n < 2 ^ 32 → magic ≡ to_le_bytes w32 n → OpenedInput a (record { magic = magic; wrapper = Some w }) f
+unfolding opening
 stream_begins a w e n magic f t u below is = record {
   live = u.live;
   goes_on = goes_on_both a e f t.goes_on u.goes_on;
   extent = λ k. u.extent (t.goes_on.tells k) ∙ t.extent k;
   reads = λ k. rw (t.reads k, u.reads (t.goes_on.tells k), magic_is n magic below is) refl;
+  end = u.end ∙ t.end;
+  limit = u.limit ∙ t.limit;
+  spells = spelled;
 }
+  where
+    in_wrapped : ℕ → terms.Head
+    in_wrapped m = record { magic = m; wrapper = Some (wrapper_told w) }
+
+    head : terms.Head
+    head = record { magic = magic_number magic; wrapper = Some (wrapper_told w) }
+
+    inner : SpellsTo (wrapper_and_gap >>= in_stream) t.spells.1 head f.position
+    inner = spells_then wrapper_and_gap in_stream t.spells.1 e.position f.position (wrapper_told w) head t.spells.4
+        (spells_then inner_magic (λ m. gives (record { magic = m; wrapper = Some (wrapper_told w) })) e.position f.position f.position n head u.spells
+        ([], (refl, ap (λ (m : ℕ). in_wrapped m) (magic_is n magic below is)), omega arith))
+
+    spelled : SpellsTo opening 0 head f.position
+    spelled = spells_then (fixed 32) in_input 0 t.spells.1 f.position t.spells.0 head t.spells.3 (inner.0, inl (t.spells.2, inner.1), inner.2)

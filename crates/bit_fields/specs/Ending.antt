@@ -1,5 +1,5 @@
 -- The end of a stream, and of its input.
-use Rattle.std.specs.Prelude.{◌≡◌, ℕ, ◌-◌, ◌*◌, ◌^◌, ◌<◌, min, Bool, true, false, if◌then◌else◌, ◌&&◌, [], length, Result, Ok, Err, nat_lt}
+use Rattle.std.specs.Prelude.{◌≡◌, ℕ, ◌-◌, ◌*◌, ◌^◌, ◌<◌, ◌≤◌, min, Bool, true, false, if◌then◌else◌, ◌&&◌, [], length, Result, Ok, Err, nat_lt}
 use Rattle.bit_grammar.specs.declared.reason.Reason.TheVariants.{TooLong, WrapperSize}
 use Rattle.bit_grammar.specs.Grammar as grammar
 use Rattle.bit_grammar.specs.Grammar.{at}
@@ -28,6 +28,8 @@ pub record Stays (old new : Reader) : Type 0 where
   pub live : new.live ≡ true
   pub goes_on : GoesOn old new
   pub position : new.position ≡ old.position
+  pub end : new.extent.end ≡ old.extent.end
+  pub limit : new.extent.limit ≡ old.extent.limit
   pub extent : TellsBytes old → new.extent ≡ old.extent
   pub left : TellsBytes old → new.left ≡ old.left
 
@@ -58,9 +60,15 @@ abbrev pub verdict : Extent → Result (Unit {0}) grammar.Fault
 verdict e = if is_in_wrapper e && nat_lt e.total e.end then Err (at WrapperSize 96)
     else (if nat_lt e.limit e.total then Err (at TooLong (8 * e.limit)) else Ok tt)
 
+-- a stream that ends before this bit is within the limit on bytes, and fills its wrapper, if it has one
+pub record FillsStream (e : Extent) (p : ℕ) : Type 0 where
+  pub within : p ≤ 8 * e.limit
+  pub wrapped : e.end < 2 ^ 64 - 1 → p ≡ 8 * e.end
+
 -- the input is complete and within the limit, and its source has no byte left
 pub record Closed (old new : Reader) : Type 0 where
   pub stops : StopsReading old new
+  pub fills : FillsStream old.extent old.position
   pub whole : TellsBytes old → verdict old.extent ≡ Ok tt
   pub none : TellsBytes old → known_bytes new.incoming.to_come ≡ []
 

@@ -2,7 +2,7 @@
 use Rattle.std.specs.Prelude.{◌≡◌, ℕ, ◌+◌, ◌-◌, ◌*◌, ◌^◌, ◌<◌, ◌⊎◌, Bool, true, if◌then◌else◌, List, length, take, Option, Some, None, Result, Ok, Err}
 use Rattle.bit_grammar.specs.Bits.{number, bits_of_bytes}
 use Rattle.bit_grammar.specs.Grammar as grammar
-use Rattle.bit_grammar.specs.Grammar.{Grammar, reading, ◌and_then◌}
+use Rattle.bit_grammar.specs.Grammar.{Grammar, gives, choose, ◌>>=◌, reading, ◌and_then◌}
 use Rattle.bit_grammar.specs.Fields.{fixed}
 use Rattle.bit_grammar.specs.Blocks.{Limits}
 use Rattle.bit_grammar.specs.Normal.{most_bytes, most_depth, most_values}
@@ -13,7 +13,7 @@ use Rattle.bit_fields.specs.declared.fault.Fault.TheVariants.{Refused, Read, Wri
 use Rattle.bit_fields.specs.declared.head.Wrapper.{Wrapper}
 use Rattle.bit_fields.specs.declared.head.Head.{Head}
 use Rattle.bit_fields.specs.Devices.{Incoming, Spends, Fails, known_bytes}
-use Rattle.bit_fields.specs.Reader.{Reader, TellsBytes, Breaks, GoesOn}
+use Rattle.bit_fields.specs.Reader.{Reader, TellsBytes, Breaks, GoesOn, SpellsTo}
 
 -- a limit is past its cap
 abbrev pub PassCaps : Limits → Type 0
@@ -56,6 +56,14 @@ beginning r = reading (fixed 32) 0 r and_then λ x. if is_wrapped x.0
     then in_wrapper (reading wrapper_and_gap x.1 x.2)
     else Ok (record { magic = x.0; wrapper = None }, x.1, x.2)
 
+-- the same as a rule, wherever the stream of a wrapper ends
+unfoldable pub opening : Grammar terms.Head
+opening = do
+  magic ← fixed 32
+  choose (is_wrapped magic) (wrapper_and_gap >>= λ w. inner_magic >>= λ inner. gives
+      (record { magic = inner; wrapper = Some w })) (
+      gives (record { magic = magic; wrapper = None }))
+
 -- the wrapper of an input with these bits, if there is one and its header is complete and lawful
 abbrev pub wrapper_read : Result (Option terms.Wrapper × ℕ × List Bool) grammar.Fault
     → Option terms.Wrapper
@@ -90,6 +98,9 @@ pub record OpenedInput (old : Reader) (head : Head) (new : Reader) : Type 0 wher
   pub extent : TellsBytes old → new.extent ≡ record old.extent
       { end = end_of_stream (wrapper_if_any head.wrapper) }
   pub reads : TellsBytes old → beginning old.left ≡ Ok (head_told head, new.position, new.left)
+  pub end : new.extent.end ≡ end_of_stream (wrapper_if_any head.wrapper)
+  pub limit : new.extent.limit ≡ old.extent.limit
+  pub spells : SpellsTo opening 0 (head_told head) new.position
 
 -- an input was not begun, and the source is returned
 abbrev pub LeavesSource : Reader → Incoming → Type 0

@@ -51,7 +51,12 @@ Breaks e (Err fault) reason bit = within e fault.reason fault.bit ≡ at reason 
 abbrev pub GoesOn : Reader → Reader → Type 0
 GoesOn old new = Spends old.incoming old.budget new.incoming new.budget
 
--- a call that succeeded took what the rule reads, and returned its value
+-- some bits, beginning at a position, spell the value, up to another position
+abbrev pub SpellsTo : {A : Type 0} → Grammar A → ℕ → A → ℕ → Type 0
+SpellsTo rule p value q = (s : List Bool) × Spells rule p s value × (q ≡ p + length s)
+
+-- A call that succeeded took what the rule reads, and returned its value: of the unread input, if its bytes are known, and else of
+-- some bits.
 pub record Took {A : Type 0} (rule : Grammar A) (old : Reader) (value : A)
     (new : Reader) : Type 0 where
   pub was_live : old.live ≡ true
@@ -63,6 +68,7 @@ pub record Took {A : Type 0} (rule : Grammar A) (old : Reader) (value : A)
   pub extent : TellsBytes old → new.extent ≡ old.extent
   pub reads : TellsBytes old → reading rule old.position old.left
       ≡ Ok (value, new.position, new.left)
+  pub spells : SpellsTo rule old.position value new.position
 
 -- a call after which the reader has failed or is closed, and in which the source did not fail
 pub record StopsReading (old new : Reader) : Type 0 where

@@ -20,7 +20,7 @@ use Rattle.bit_grammar.proofs.NormalForms.Settings.{fit_of_setting}
 use Rattle.bit_fields.specs.Devices.{Incoming, Outgoing, known_bytes}
 use Rattle.bit_fields.specs.declared.fault.Fault.{Fault}
 use Rattle.bit_fields.specs.declared.fault.Fault.TheVariants.{Refused, Read, Write, Memory, OutputTooLong, Failed}
-use Rattle.bit_events.specs.Folding.{Gathered, GatheredSome}
+use Rattle.bit_events.specs.Folding.{Gathered}
 use Rattle.bit_events.specs.Gathering.{left_open}
 use Rattle.bit_events.specs.Reading.{Spent, ReadsWhole}
 use Rattle.bit_tree.specs.Reading.{HasFit}
@@ -52,9 +52,9 @@ pub record Found (s : Setting) (limits : Limits) (to_come : Option (List ℕ)) (
   pub closed : left_open events ≡ 0
   pub fit : IsSome to_come → HasFit s limits (known_bytes to_come) (record { magic = magic; blocks = told_at_level (left_events first events) 0 })
 
-pub found : (s : Setting) (limits : Limits) (to_come : Option (List ℕ)) (first last : FormBuilder) (head : Head) (after magic : ℕ) → GatheredSome IsFormOf first last → (IsSome to_come → Gathered IsFormOf limits (known_bytes to_come) first head last after)
+pub found : (s : Setting) (limits : Limits) (to_come : Option (List ℕ)) (first last : FormBuilder) (head : Head) (after magic : ℕ) → (bytes : List ℕ) × Gathered IsFormOf limits bytes first head last after → (IsSome to_come → Gathered IsFormOf limits (known_bytes to_come) first head last after)
     → first.standing.setting ≡ s → magic ≡ head.magic → Found s limits to_come first last magic
-found s limits None first last head after magic some all setting_is magic_is = record { events = some.0; form = some.1; closed = some.2; fit = λ known. absurd cc }
+found s limits None first last head after magic some all setting_is magic_is = (let m = some.1.marked in record { events = flat m.blocks []; form = some.1.gathers; closed = open_behind-flat m.blocks [] 0; fit = λ known. absurd cc })
 found s limits (Some bytes) first last head after magic some all setting_is magic_is =
     let it = all refl in
     let m = it.marked in

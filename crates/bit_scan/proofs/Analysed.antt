@@ -1,15 +1,15 @@
 -- The analysis of a whole input.
-use Rattle.std.proofs.Common.{◌≡◌, ℕ, ◌+◌, ◌-◌, List, [], sym, ap, subst, ◌∙◌}
+use Rattle.std.proofs.Common.{◌≡◌, ℕ, ◌+◌, ◌-◌, List, sym, ap, subst, ◌∙◌}
 use Rattle.bit_grammar.specs.Blocks.{Limits}
 use Rattle.bit_grammar.specs.Terms.{Head, Marked}
-use Rattle.bit_grammar.specs.Machine.{Event, flat}
+use Rattle.bit_grammar.specs.Machine.{Event}
 use Rattle.bit_grammar.specs.Counting.{Counts, no_counts, count_events}
 use Rattle.bit_grammar.specs.Tally.{BlockTally, Tally, tally_of, stream_begin, stream_bits, bits_of_rows}
 use Rattle.bit_grammar.proofs.Tallying.Tallies.{bits_add_up, rows_by_events}
 use Rattle.bit_events.specs.Folding.{Gathered}
-use Rattle.bit_scan.specs.Cut.{capped_counts}
+use Rattle.bit_scan.specs.Cut.{capped_counts, cut_rows}
 use Rattle.bit_scan.specs.Analysing.{HasTally}
-use Rattle.bit_scan.proofs.Exact.{numbers_fit, rows_stay}
+use Rattle.bit_scan.proofs.Exact.{rows_stay, report_fits}
 
 is_tally : (m : Marked) (head : Head) (p : ℕ) (tally : Tally) → m.head ≡ head → m.after ≡ p → tally.magic ≡ head.magic → tally.bits ≡ p - stream_begin head.wrapper → tally.rows ≡ (tally_of m).rows → tally ≡ tally_of m
 is_tally m head p tally is_head is_after magic bits rows =
@@ -25,7 +25,7 @@ has_tally limits bytes first last head tally after found magic bits counted =
     let rows : tally.rows ≡ (tally_of m).rows =
     counted
     ∙ ap (λ (c : Counts). c.rows) found.gathers
-    ∙ rows_stay (count_events (flat m.blocks []) no_counts).rows (numbers_fit limits bytes m found.capped found.spelled)
-    ∙ rows_by_events limits bytes m found.spelled in
+    ∙ ap cut_rows (rows_by_events limits bytes m found.spelled)
+    ∙ rows_stay (tally_of m).rows (report_fits limits bytes m found.capped found.spelled).1 in
     let same = is_tally m head after tally found.is_head found.is_after magic bits rows in
     (m, found.spelled, same, subst (λ (x : Tally). 32 + bits_of_rows x ≡ x.bits) (sym same) (bits_add_up limits bytes m found.spelled))

@@ -1,5 +1,5 @@
 -- Texts that grow, and bytes of a magic.
-use Rattle.std.proofs.Common.{◌≡◌, ℕ, zero, suc, ◌+◌, ◌*◌, ◌/◌, ◌%◌, ◌^◌, ◌<◌, ◌≤◌, List, [], ◌∷◌, ◌++◌, length, get_or, replicate, Result, Ok, Err, refl, sym, ap, ◌∙◌, append_assoc, arith}
+use Rattle.std.proofs.Common.{◌≡◌, ℕ, ◌+◌, ◌*◌, ◌/◌, ◌%◌, ◌^◌, ◌<◌, ◌≤◌, List, [], ◌∷◌, ◌++◌, length, get_or, Result, Ok, Err, refl, sym, ap, ◌∙◌, append_assoc, arith}
 use Rattle.std.specs.Prelude.{OnOk, codes, decimal, flat_map, is_ok, if◌then◌else◌}
 use Rattle.std.proofs.lemmas.Fmt.{decimal_digit, decimal_step}
 use Rattle.std.specs.declared.alloc.AllocError.{AllocError}
@@ -9,18 +9,6 @@ use Rattle.bit_fields.specs.Opening.{magic_number}
 use Rattle.bit_scan.specs.Lines.{block_row_text, block_start, block_middle, block_end}
 use Rattle.bit_scan.specs.declared.rows.BlockRow.{BlockRow}
 use Rattle.bit_tree.proofs.Magics.{magic_is}
-
--- two spaces more
-pub two_more : (n : ℕ) → replicate {A = ℕ} (2 * (n + 1)) 32 ≡ replicate {A = ℕ} (2 * n) 32 ++ 32 ∷ 32 ∷ []
-two_more n =
-    let twice : 2 * (n + 1) ≡ 2 * n + 2 = omega arith in
-    rw (twice) (pairs (2 * n))
-  where
-    pairs : (k : ℕ) → replicate {A = ℕ} (k + 2) 32 ≡ replicate {A = ℕ} k 32 ++ 32 ∷ 32 ∷ []
-    pairs zero = refl
-    pairs (suc k) =
-        let more : suc k + 2 ≡ suc (k + 2) = omega arith in
-        rw more (ap (λ (l : List ℕ). 32 ∷ l) (pairs k))
 
 bytes_of_sum : (a b c d n : ℕ) → n ≡ a + 256 * (b + 256 * (c + 256 * d)) → a < 256 → b < 256 → c < 256 → d < 256 → magic_bytes n ≡ a ∷ b ∷ c ∷ d ∷ []
 bytes_of_sum a b c d n is ha hb hc hd =

@@ -2,11 +2,12 @@
 use Rattle.std.proofs.Common.{◌≡◌, ℕ, zero, suc, ◌+◌, ◌*◌, ◌/◌, ◌%◌, ◌^◌, ◌<◌, ◌≤◌, Bool, true, false, nat_lt, List, [], ◌∷◌, ◌++◌, length, get_or, take, drop, replicate, refl, sym, ap, ◌∙◌, append_assoc, arith, length-append}
 use Rattle.std.specs.Prelude.{decimal}
 use Rattle.std.proofs.lemmas.List.{length-take-le, take-take, take-append-le, replicate-append-replicate, take-replicate, take-append-drop, length-drop, get_or_append_left, get_or-append-add}
-use Rattle.std.proofs.lemmas.Bool.{ltb-true, ltb-false}
+use Rattle.std.proofs.lemmas.Bool.{lt-ltb, le-ltb, ltb-true, ltb-false}
 use Rattle.std.proofs.Math.Seq.{take-append-add, take-append_seam}
 use Rattle.std.proofs.lemmas.Fmt.{length-decimal-le, decimal_digit, decimal_step}
 use Rattle.itoa.proofs.Decimal.{length_pair, length_step_wide, decimal_two}
-use Rattle.bit_scan.specs.Digits.{entry}
+use Rattle.bit_scan.specs.Digits.{entry, last_three}
+use Rattle.bit_scan.specs.Json.{number_json}
 use Rattle.bit_scan.specs.declared.digits.TheConstants.{SMALL}
 
 -- ---- short numbers
@@ -98,6 +99,44 @@ short_wrote n at end e old new h is fits ends p =
     let few : length (decimal n) ≤ length e = rw (is, entry_long n) (omega (arith, length-decimal-le 3 n (omega arith) (omega arith) (omega arith))) in
     shorter e (length (decimal n)) at end (at + length (decimal n)) old new refl (omega (arith, ends, few)) (omega arith) p
     ∙ ap (λ (l : List ℕ). take at old ++ l) (ap (take (length (decimal n))) is ∙ (entry_tells n h).1)
+
+-- the last three digits, of which two are from the entry of a number from 100 on
+behind_hundred : (p : ℕ) → p < 100 → ((p + 100) / 10 % 10 ≡ p / 10) × ((p + 100) % 10 ≡ p % 10)
+behind_hundred p h = (omega arith, omega arith)
+
+last_two : (n : ℕ) (e : List ℕ) → e ≡ entry (n % 1000 % 100 + 100) → get_or e 1 0 ∷ get_or e 2 0 ∷ [] ≡ (48 + n % 100 / 10) ∷ (48 + n % 10) ∷ []
+last_two n e is =
+    let p = n % 100 in
+    let low : n % 1000 % 100 ≡ p = omega arith in
+    let digits = behind_hundred p (omega arith) in
+    let ones : p % 10 ≡ n % 10 = omega arith in
+    rw (is, low, le-ltb (p + 100) 10 (omega arith), le-ltb (p + 100) 100 (omega arith), digits.0, digits.1, ones) refl
+
+pub last_wrote : (n : ℕ) (e before middle new : List ℕ) → e ≡ entry (n % 1000 % 100 + 100) → middle ≡ before ++ ((48 + n % 1000 / 100) ∷ []) → new ≡ middle ++ (get_or e 1 0 ∷ get_or e 2 0 ∷ []) → new ≡ before ++ last_three n
+last_wrote n e before middle new is first second =
+    second
+    ∙ ap (λ (l : List ℕ). l ++ (get_or e 1 0 ∷ get_or e 2 0 ∷ [])) first
+    ∙ append_assoc before ((48 + n % 1000 / 100) ∷ []) (get_or e 1 0 ∷ get_or e 2 0 ∷ [])
+    ∙ ap (λ (l : List ℕ). before ++ ((48 + n % 1000 / 100) ∷ l)) (last_two n e is)
+
+-- they follow those of the thousands
+thousands : (n : ℕ) → 1000 ≤ n → n < 2 ^ 64 → decimal n ≡ decimal (n / 1000) ++ last_three n
+thousands n lo hi =
+    let thousand : n / 10 / 10 / 10 ≡ n / 1000 = omega arith in
+    let hundreds : n / 10 / 10 % 10 ≡ n % 1000 / 100 = omega arith in
+    let tens : n / 10 % 10 ≡ n % 100 / 10 = omega arith in
+    rw (decimal_step n (omega arith) hi, decimal_step (n / 10) (omega arith) (omega arith), decimal_step (n / 10 / 10) (omega arith) (omega arith), thousand, hundreds, tens, append_assoc, append_assoc) refl
+
+pub large_wrote : (n : ℕ) (before middle new : List ℕ) → 1000 ≤ n → n < 2 ^ 64 → middle ≡ before ++ decimal (n / 1000) → new ≡ middle ++ last_three n → new ≡ before ++ decimal n
+large_wrote n before middle new lo hi first second =
+    second
+    ∙ ap (λ (l : List ℕ). l ++ last_three n) first
+    ∙ append_assoc before (decimal (n / 1000)) (last_three n)
+    ∙ ap (λ (l : List ℕ). before ++ l) (sym (thousands n lo hi))
+
+-- a short number as JSON
+pub short_json : (n : ℕ) → n < 1000 → decimal n ≡ number_json n
+short_json n h = rw (lt-ltb n (2 ^ 53) (omega arith)) refl
 
 -- a number from 1000 on has three digits more than its thousands
 pub three_more : (n : ℕ) → 1000 ≤ n → n < 2 ^ 64 → length (decimal n) ≡ length (decimal (n / 1000)) + 3

@@ -1,3 +1,5 @@
+pub mod EventReadings
+pub mod Readings
 pub mod Appending
 pub mod Bounds
 pub mod Changes

@@ -65,7 +65,7 @@ values_parts vs a b zeros d is =
     let c = replicate zeros 0 in
     record { are = ap text is ∙ flat_map-append value_text (a ++ b ++ c) d ∙ ap (λ (s : List ℕ). s ++ text d) (flat_map-append value_text (a ++ b) c ∙ ap (λ (s : List ℕ). s ++ text c) (flat_map-append value_text a b)) ∙ append_assoc (text a ++ text b) (text c) (text d) ∙ append_assoc (text a) (text b) (text c ++ text d) }
 
-zeros_next : (count i : ℕ) → i < count → replicate {A = ℕ} (count - i) 0 ≡ 0 ∷ replicate (count - (i + 1)) 0
+pub zeros_next : (count i : ℕ) → i < count → replicate {A = ℕ} (count - i) 0 ≡ 0 ∷ replicate (count - (i + 1)) 0
 zeros_next count i lt = ap (λ (n : ℕ). replicate {A = ℕ} n 0) one_more
   where
     one_more : count - i ≡ suc (count - (i + 1))

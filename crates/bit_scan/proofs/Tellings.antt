@@ -1,5 +1,5 @@
 -- The lines of events, one after the other, and how they end.
-use Rattle.std.proofs.Common.{◌≡◌, ℕ, ◌+◌, ◌≤◌, List, [], ◌++◌, refl, sym, ap, subst, ◌∙◌, inl, inr, arith, Result, Ok, Err, ◌∷◌, append_assoc, Option, Some, None}
+use Rattle.std.proofs.Common.{◌≡◌, ℕ, ◌+◌, List, [], ◌++◌, refl, sym, ap, subst, ◌∙◌, inl, inr, arith, Result, Ok, Err, ◌∷◌, append_assoc, Option, Some, None}
 use Rattle.std.specs.Prelude.{◌⊎◌, OnErr, OnOk}
 use Rattle.std.specs.declared.alloc.AllocError.{AllocError}
 use Rattle.std.proofs.lemmas.List.{append-nil}

@@ -6,3 +6,7 @@ abbrev pub entry : ℕ → List ℕ
 entry n = if nat_lt n 10 then ((48 + n) ∷ 32 ∷ 32 ∷ 2 ∷ [])
     else (if nat_lt n 100 then ((48 + n / 10) ∷ (48 + n % 10) ∷ 32 ∷ 3 ∷ [])
     else ((48 + n / 100) ∷ (48 + n / 10 % 10) ∷ (48 + n % 10) ∷ 4 ∷ []))
+
+-- the last three digits of a number
+abbrev pub last_three : ℕ → List ℕ
+last_three n = (48 + n % 1000 / 100) ∷ (48 + n % 100 / 10) ∷ (48 + n % 10) ∷ []

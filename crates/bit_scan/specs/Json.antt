@@ -102,6 +102,14 @@ abbrev pub noted_fields : (around first code abbreviation count : ℕ) → List 
 noted_fields around first code abbreviation count = (codes "bit", first) ∷ (codes "depth", around)
     ∷ (codes "code", code) ∷ (codes "abbreviation", abbreviation) ∷ (codes "count", count) ∷ []
 
+-- the same of a block, and of a definition or a block's end
+abbrev pub opened_fields : (around id width first body : ℕ) → List Field
+opened_fields around id width first body = (codes "bit", first) ∷ (codes "depth", around)
+    ∷ (codes "id", id) ∷ (codes "width", width) ∷ (codes "body", body) ∷ []
+
+abbrev pub place_fields : (around bit : ℕ) → List Field
+place_fields around bit = (codes "bit", bit) ∷ (codes "depth", around) ∷ []
+
 -- The line of an event, with `around` blocks open before it. It has the content of the line of text, and the number of open blocks.
 abbrev pub event_json : ValueDisplay → (around : ℕ) → Event → List ℕ
 event_json values around (enters o) = object_line (codes "block")

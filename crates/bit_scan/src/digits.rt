@@ -1,7 +1,7 @@
 //! Texts written forwards into bytes. Each call returns the place after its text; up to 15 bytes after that may change.
 
 ghost use Rattle.std.specs.Prelude.{◌≡◌, ◌+◌, ◌*◌, ◌<◌, ◌≤◌, [], ◌∷◌, ◌++◌, decimal, length, replicate, take};
-ghost use Rattle.bit_scan.specs.Digits.{entry};
+ghost use Rattle.bit_scan.specs.Digits.{entry, last_three};
 
 use itoa::write_digits;
 
@@ -86,9 +86,9 @@ fn entry_of(number: u64) -> [u8; 4]
     ]
 }
 
-/// Writes a text.
+/// Writes a text of any length.
 #[inline(always)]
-pub(crate) fn put_text(text: &[u8], bytes: &mut [u8], at: usize) -> usize
+pub(crate) fn put_slice(text: &[u8], bytes: &mut [u8], at: usize) -> usize
     requires { at + length text.now ≤ length bytes.old }
     ensures end { result ≡ at + length text.now }
     ensures long { length bytes.new ≡ length bytes.old }
@@ -97,6 +97,17 @@ pub(crate) fn put_text(text: &[u8], bytes: &mut [u8], at: usize) -> usize
     let end = at + text.len();
     bytes[at..end].copy_from_slice(text);
     end
+}
+
+/// Writes a text of a few bytes. It is taken by value, so that the compiler knows that none of its bytes is written.
+#[inline(always)]
+pub(crate) fn put_text<const N: usize>(text: [u8; N], bytes: &mut [u8], at: usize) -> usize
+    requires { at + length text ≤ length bytes.old }
+    ensures end { result ≡ at + length text.entry }
+    ensures long { length bytes.new ≡ length bytes.old }
+    ensures wrote { take result bytes.new ≡ take at bytes.old ++ text.entry }
+{
+    put_slice(&text, bytes, at)
 }
 
 /// Writes a byte.
@@ -121,7 +132,7 @@ pub(crate) fn put_spaces(count: usize, bytes: &mut [u8], at: usize) -> usize
 {
     let mut done = 0;
     while done < count {
-        put_text(&[b' '; 16], bytes, at + done);
+        put_text([b' '; 16], bytes, at + done);
         done += 16;
     }
     at + count
@@ -137,7 +148,7 @@ fn put_short(number: u64, bytes: &mut [u8], at: usize) -> usize
     ensures wrote { take (at + length (decimal number)) bytes.new ≡ take at bytes.old ++ decimal number }
 {
     let entry = entry_of(number);
-    put_text(&entry, bytes, at);
+    put_text(entry, bytes, at);
     entry[3] as usize
 }
 
@@ -156,9 +167,9 @@ fn digits_of(number: u64) -> usize
     count + entry_of(left)[3] as usize - 1
 }
 
-/// Writes the digits of a number.
+/// Writes the digits of a number of any length.
 #[inline(never)]
-fn put_large(number: u64, bytes: &mut [u8], at: usize) -> usize
+fn put_long(number: u64, bytes: &mut [u8], at: usize) -> usize
     requires { at + 20 ≤ length bytes.old }
     ensures end { (at ≤ result) × (result ≤ at + 20) }
     ensures long { length bytes.new ≡ length bytes.old }
@@ -167,6 +178,35 @@ fn put_large(number: u64, bytes: &mut [u8], at: usize) -> usize
     let end = at + digits_of(number);
     write_digits(number, bytes, end);
     end
+}
+
+/// Writes the last three digits of a number.
+#[inline(always)]
+fn put_last(number: u64, bytes: &mut [u8], at: usize) -> usize
+    requires { at + 3 ≤ length bytes.old }
+    ensures end { result ≡ at + 3 }
+    ensures long { length bytes.new ≡ length bytes.old }
+    ensures wrote { take result bytes.new ≡ take at bytes.old ++ last_three number }
+{
+    let last = number % 1000;
+    let entry = entry_of(last % 100 + 100);
+    let tens = put_byte(b'0' + (last / 100) as u8, bytes, at);
+    put_text([entry[1], entry[2]], bytes, tens)
+}
+
+/// Writes the digits of a number that has at least four.
+#[inline(never)]
+fn put_large(number: u64, bytes: &mut [u8], at: usize) -> usize
+    requires { (1000 ≤ number) × (at + 20 ≤ length bytes.old) }
+    ensures end { (at ≤ result) × (result ≤ at + 20) }
+    ensures long { length bytes.new ≡ length bytes.old }
+    ensures wrote { take result bytes.new ≡ take at bytes.old ++ decimal number }
+{
+    if number >= 1_000_000 {
+        return put_long(number, bytes, at);
+    }
+    let front = at + put_short(number / 1000, bytes, at) - 1;
+    put_last(number, bytes, front)
 }
 
 /// Writes the digits of a number.

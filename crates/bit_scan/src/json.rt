@@ -6,7 +6,7 @@ ghost use Rattle.bit_grammar.specs.Texts.{hex_text, magic_bytes};
 ghost use Rattle.bit_grammar.specs.Reasons.{name_of};
 ghost use Rattle.bit_fields.specs.Opening.{magic_number};
 ghost use Rattle.bit_scan.specs.ObjectLines.{IsPlain};
-ghost use Rattle.bit_scan.specs.Json.{ArePlain, number_json, field_json, fields_told, noted_fields, object_front, object, object_line, list_front, text_front, text_part, text_line, comma, op_json};
+ghost use Rattle.bit_scan.specs.Json.{ArePlain, number_json, field_json, fields_told, noted_fields, object_front, object, object_line, text_front, text_part, text_line, comma, op_json};
 
 use crate::lines::{push_magic_digits, push_number};
 use bit_fields::Reason;
@@ -96,21 +96,6 @@ pub(crate) fn push_object_line(
 {
     push_object(text, kind, fields)?;
     text.push_str("\n")
-}
-
-/// Appends a line that is an object with a list, up to the list.
-pub(crate) fn push_list_front(
-    text: &mut String,
-    kind: &str,
-    fields: &[Field<'_>],
-    key: &str,
-) -> Result<(), AllocError>
-    requires { IsPlain kind.now × ArePlain fields.now × IsPlain key.now }
-    ensures { OnOk result (string_bytes text.new
-        ≡ string_bytes text.old ++ list_front kind.now (fields_told fields.now) key.now) }
-{
-    push_front(text, kind, fields)?;
-    push_key(text, key, "\":[")
 }
 
 /// Appends a line that is an object with a text, up to the text.

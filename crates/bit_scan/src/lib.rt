@@ -8,8 +8,8 @@
 //! `write_show` keeps the bytes that `check_keeping` accepts, reads them again, and prints items as they are read, without a tree.
 //! `write_events` prints each event as it is read, as text or as a JSON object (`json`), in pieces of about 64 KiB. Both writers are
 //! gatherers; if a line is not written, they keep its fault.
-//! The line of a record of few values is written at once, forwards, into the buffered text (`record_lines`, `text_buffer`). A line that
-//! would fill the buffer, and each other one, is added piece by piece.
+//! The lines of blocks, definitions and records are written forwards into the buffered text (`record_lines`, `text_buffer`). That of a
+//! record of few values is written at once; one that would fill the buffer, and each other one, is added piece by piece.
 #![tactic(auto)]
 
 mod analysing;

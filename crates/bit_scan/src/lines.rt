@@ -1,9 +1,8 @@
-ghost use Rattle.std.specs.Prelude.{◌≡◌, ℕ, ◌*◌, ◌-◌, ◌<◌, ◌++◌, ◌∷◌, OnOk, codes, decimal, flat_map, replicate, string_bytes};
-ghost use Rattle.bit_grammar.specs.EventTexts.{line_at, op_text, opened_text};
-ghost use Rattle.bit_grammar.specs.Texts.{hex_text, magic_bytes, magic_text, block_line};
+ghost use Rattle.std.specs.Prelude.{◌≡◌, ℕ, ◌<◌, ◌++◌, [], ◌∷◌, OnOk, codes, decimal, flat_map, string_bytes};
+ghost use Rattle.bit_grammar.specs.EventTexts.{line_at, op_text};
+ghost use Rattle.bit_grammar.specs.Texts.{hex_text, magic_bytes, magic_text};
 ghost use Rattle.bit_fields.specs.Opening.{magic_number};
-ghost use Rattle.bit_scan.specs.Lines.{report_head, listing_head, block_row_text, block_start, block_middle, block_end, code_row_text, record_line_front};
-ghost use Rattle.bit_scan.specs.Lines.{line_front, definition_head, noted_head};
+ghost use Rattle.bit_scan.specs.Lines.{report_head, listing_head, block_row_text, block_start, block_middle, block_end, code_row_text};
 
 use crate::rows::{BlockRow, CodeRow};
 use bit_grammar::Op;
@@ -171,32 +170,13 @@ pub(crate) fn push_number(text: &mut String, number: u64) -> Result<(), AllocErr
     push_formatted(text, number)
 }
 
-/// Appends two spaces for each block around.
-fn push_indent(text: &mut String, around: u32) -> Result<(), AllocError>
+/// Appends a bit and a space.
+fn push_bit(text: &mut String, bit: u64) -> Result<(), AllocError>
     ensures { OnOk result (string_bytes text.new
-        ≡ string_bytes text.old ++ replicate (2 * around) 32) }
-{
-    for _ in 0..around {
-        text.push_str("  ")?;
-    }
-    Ok(())
-}
-
-/// Appends the line of a block in a listing.
-pub(crate) fn push_block_line(text: &mut String, around: u32, id: u32) -> Result<(), AllocError>
-    ensures { OnOk result (string_bytes text.new ≡ string_bytes text.old ++ block_line around id) }
-{
-    push_indent(text, around)?;
-    writeln!(text, "block {id}")
-}
-
-/// Appends a bit, a space, and two spaces for each block around.
-fn push_place(text: &mut String, bit: u64, around: u32) -> Result<(), AllocError>
-    ensures { OnOk result (string_bytes text.new ≡ string_bytes text.old ++ line_front bit around) }
+        ≡ string_bytes text.old ++ (decimal bit ++ (32 ∷ []))) }
 {
     push_number(text, bit)?;
-    text.push(' ')?;
-    push_indent(text, around)
+    text.push(' ')
 }
 
 /// Appends the line of a magic among events.
@@ -208,37 +188,8 @@ pub(crate) fn push_head_line(
     ensures { OnOk result (string_bytes text.new
         ≡ string_bytes text.old ++ line_at begin 0 (magic_text (magic_number magic))) }
 {
-    push_place(text, begin, 0)?;
+    push_bit(text, begin)?;
     push_listing_head(text, magic)
-}
-
-/// Appends the line of a block's beginning.
-pub(crate) fn push_opened_line(
-    text: &mut String,
-    around: u32,
-    id: u32,
-    width: u8,
-    first: u64,
-    body: u64,
-) -> Result<(), AllocError>
-    ensures { OnOk result (string_bytes text.new
-        ≡ string_bytes text.old ++ line_at first around (opened_text id width body)) }
-{
-    push_place(text, first, around)?;
-    writeln!(text, "block {id} width {width} body {body}")
-}
-
-/// Appends the line of a definition, up to its operands.
-pub(crate) fn push_definition_head(
-    text: &mut String,
-    around: u32,
-    first: u64,
-) -> Result<(), AllocError>
-    ensures { OnOk result (string_bytes text.new
-        ≡ string_bytes text.old ++ definition_head around first) }
-{
-    push_place(text, first, around)?;
-    text.push_str("define ")
 }
 
 /// Appends an operand.
@@ -262,13 +213,4 @@ pub(crate) fn push_further_operand(text: &mut String, op: Op) -> Result<(), Allo
 {
     text.push_str(", ")?;
     push_operand(text, op)
-}
-
-/// Appends the line of a block's end, with `around` blocks open before it.
-pub(crate) fn push_end_line(text: &mut String, around: u32, after: u64) -> Result<(), AllocError>
-    ensures { OnOk result (string_bytes text.new
-        ≡ string_bytes text.old ++ line_at after (around - 1) (codes "end")) }
-{
-    push_place(text, after, around.saturating_sub(1))?;
-    text.push_str("end\n")
 }

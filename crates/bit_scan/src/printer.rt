@@ -1,24 +1,21 @@
-ghost use Rattle.std.specs.Prelude.{◌≡◌, ◌<◌, ◌≤◌, ◌-◌, ◌∷◌, ◌++◌, ℕ, List, [], OnOk, OnErr, codes, decimal, flat_map, length, string_bytes};
+ghost use Rattle.std.specs.Prelude.{◌≡◌, ◌<◌, ◌≤◌, ◌∷◌, ◌++◌, ℕ, List, [], OnOk, OnErr, codes, decimal, flat_map, length, string_bytes};
 ghost use Rattle.bit_grammar.specs.EventTexts.{line_at, op_text, opened_text};
 ghost use Rattle.bit_grammar.specs.Reasons.{name_of};
 ghost use Rattle.bit_grammar.specs.Texts.{hex_text, magic_bytes, magic_text, block_line, record_line, values_text};
 ghost use Rattle.bit_fields.specs.Opening.{magic_number};
 ghost use Rattle.bit_scan.specs.ObjectLines.{IsPlain};
-ghost use Rattle.bit_scan.specs.Json.{ArePlain, comma, fields_told, joined, joined_from, list_front, list_line, noted_fields, number_json, object_line, op_json, text_line};
+ghost use Rattle.bit_scan.specs.Json.{ArePlain, comma, fields_told, joined, joined_from, list_front, list_line, noted_fields, number_json, object_line, op_json, opened_fields, place_fields, text_line};
 ghost use Rattle.bit_scan.specs.Lines.{report_head, listing_head, block_row_text, code_row_text, record_line_front, definition_head, noted_head};
 ghost use Rattle.bit_scan.specs.Printing.{PrintedAll, PrintedFront, Prints, PrintsWhole};
 ghost use Rattle.bit_fields.specs.declared.fault.Fault.TheVariants.{Memory};
 ghost use Rattle.bit_scan.specs.Written.{HasFailed, TookFront, TookText};
 
-use crate::json::{
-    Field, push_list_front, push_magic_line, push_object_line, push_op_item, push_reason_line,
-};
+use crate::json::{Field, push_magic_line, push_object_line, push_op_item, push_reason_line};
 use crate::lines::{
-    push_block_line, push_block_row, push_code_row, push_definition_head, push_end_line,
-    push_further_operand, push_head_line, push_listing_head, push_opened_line, push_operand,
-    push_report_head,
+    push_block_row, push_code_row, push_further_operand, push_head_line, push_listing_head,
+    push_operand, push_report_head,
 };
-use crate::record_lines::Noted;
+use crate::record_lines::{Noted, Opened};
 use crate::rows::{BlockRow, CodeRow};
 use crate::text_buffer::{BATCH, BYTES, HELD, TextBuffer};
 use bit_fields::{Fault, Reason, Sink, SinkFailed};
@@ -186,8 +183,7 @@ impl<K: Sink> Printer<K> {
     pub(crate) fn block_line(&mut self, around: u32, id: u32) -> Result<(), Fault>
         ensures { Prints (block_line around id) self.old result self.new }
     {
-        let pushed = push_block_line(&mut self.piece, around, id);
-        let added = add_piece(&mut self.held, &mut self.piece, pushed);
+        let added = self.held.push_block_line(around, id);
         self.settled(added)
     }
 
@@ -311,19 +307,11 @@ impl<K: Sink> Printer<K> {
     }
 
     /// The line of a block's beginning, with `around` blocks around it.
-    pub(crate) fn opened_line(
-        &mut self,
-        around: u32,
-        id: u32,
-        width: u8,
-        first: u64,
-        body: u64,
-    ) -> Result<(), Fault>
-        ensures { Prints (line_at first around (opened_text id width body)) self.old result
-            self.new }
+    pub(crate) fn opened_line(&mut self, around: u32, opened: Opened) -> Result<(), Fault>
+        ensures { Prints (line_at opened.first around
+            (opened_text opened.id opened.width opened.body)) self.old result self.new }
     {
-        let pushed = push_opened_line(&mut self.piece, around, id, width, first, body);
-        let added = add_piece(&mut self.held, &mut self.piece, pushed);
+        let added = self.held.push_opened_line(around, opened);
         self.settled(added)
     }
 
@@ -331,8 +319,7 @@ impl<K: Sink> Printer<K> {
     pub(crate) fn definition_head(&mut self, around: u32, first: u64) -> Result<(), Fault>
         ensures { Prints (definition_head around first) self.old result self.new }
     {
-        let pushed = push_definition_head(&mut self.piece, around, first);
-        let added = add_piece(&mut self.held, &mut self.piece, pushed);
+        let added = self.held.push_definition_head(around, first);
         self.settled(added)
     }
 
@@ -363,12 +350,11 @@ impl<K: Sink> Printer<K> {
         self.settled(added)
     }
 
-    /// The line of a block's end, with `around` blocks open before it.
+    /// The line of a block's end, with `around` blocks around it.
     pub(crate) fn end_line(&mut self, around: u32, after: u64) -> Result<(), Fault>
-        ensures { Prints (line_at after (around - 1) (codes "end")) self.old result self.new }
+        ensures { Prints (line_at after around (codes "end")) self.old result self.new }
     {
-        let pushed = push_end_line(&mut self.piece, around, after);
-        let added = add_piece(&mut self.held, &mut self.piece, pushed);
+        let added = self.held.push_end_line(around, after);
         self.settled(added)
     }
 
@@ -382,19 +368,31 @@ impl<K: Sink> Printer<K> {
         self.settled(added)
     }
 
-    /// A line that is a JSON object with a list, up to the list.
-    pub(crate) fn list_front(
-        &mut self,
-        kind: &str,
-        fields: &[Field<'_>],
-        key: &str,
-    ) -> Result<(), Fault>
-        requires { IsPlain kind.now × ArePlain fields.now × IsPlain key.now }
-        ensures { Prints (list_front kind.now (fields_told fields.now) key.now) self.old result
+    /// The line of a block's beginning as JSON.
+    pub(crate) fn opened_object(&mut self, around: u32, opened: Opened) -> Result<(), Fault>
+        ensures { Prints (object_line (codes "block")
+            (opened_fields around opened.id opened.width opened.first opened.body)) self.old result
             self.new }
     {
-        let pushed = push_list_front(&mut self.piece, kind, fields, key);
-        let added = add_piece(&mut self.held, &mut self.piece, pushed);
+        let added = self.held.push_opened_object(around, opened);
+        self.settled(added)
+    }
+
+    /// The line of a block's end as JSON, with `around` blocks around it.
+    pub(crate) fn end_object(&mut self, around: u32, after: u64) -> Result<(), Fault>
+        ensures { Prints (object_line (codes "end") (place_fields around after)) self.old result
+            self.new }
+    {
+        let added = self.held.push_end_object(around, after);
+        self.settled(added)
+    }
+
+    /// The line of a definition as JSON, up to its operands.
+    pub(crate) fn definition_list(&mut self, around: u32, first: u64) -> Result<(), Fault>
+        ensures { Prints (list_front (codes "define") (place_fields around first)
+            (codes "operands")) self.old result self.new }
+    {
+        let added = self.held.push_definition_list(around, first);
         self.settled(added)
     }
 
@@ -426,11 +424,20 @@ impl<K: Sink> Printer<K> {
     }
 
     /// At most a batch of numbers of a JSON list, the first of them at a place.
-    pub(crate) fn items(&mut self, place: usize, numbers: &[u64]) -> Result<(), Fault>
+    pub(crate) fn items(&mut self, place: u64, numbers: &[u64]) -> Result<(), Fault>
         requires { length numbers.now ≤ 64 }
         ensures { Prints (joined_from number_json place numbers.now) self.old result self.new }
     {
         let added = self.held.push_items(place, numbers);
+        self.settled(added)
+    }
+
+    /// At most a batch of bytes as numbers of a JSON list, the first of them at a place.
+    pub(crate) fn byte_items(&mut self, place: u64, values: &[u8]) -> Result<(), Fault>
+        requires { length values.now ≤ 64 }
+        ensures { Prints (joined_from number_json place values.now) self.old result self.new }
+    {
+        let added = self.held.push_byte_items(place, values);
         self.settled(added)
     }
 

@@ -1,9 +1,10 @@
-//! The lines of records, written forwards into bytes. Each call returns the place after its text.
+//! The lines of blocks, definitions and records, written forwards into bytes. Each call returns the place after its text.
 
 ghost use Rattle.std.specs.Prelude.{◌≡◌, ◌+◌, ◌*◌, ◌≤◌, [], ◌∷◌, ◌++◌, codes, decimal, flat_map, length, take};
-ghost use Rattle.bit_grammar.specs.Texts.{values_text, record_line};
-ghost use Rattle.bit_scan.specs.Json.{comma, item_json, joined, joined_from, list_front, list_line, noted_fields, number_json, object_front, object_line};
-ghost use Rattle.bit_scan.specs.Lines.{noted_head, record_line_front};
+ghost use Rattle.bit_grammar.specs.EventTexts.{line_at, opened_text};
+ghost use Rattle.bit_grammar.specs.Texts.{block_line, values_text, record_line};
+ghost use Rattle.bit_scan.specs.Json.{comma, item_json, joined, joined_from, list_front, list_line, noted_fields, number_json, object_front, object_line, opened_fields, place_fields};
+ghost use Rattle.bit_scan.specs.Lines.{definition_head, line_front, noted_head, record_line_front};
 
 use crate::digits::{put_byte, put_digits, put_spaces, put_text};
 use crate::json::FIRST_QUOTED;
@@ -15,6 +16,15 @@ pub(crate) struct Noted {
     pub(crate) code: u64,
     pub(crate) abbreviation: u32,
     pub(crate) count: u64,
+}
+
+/// A block's id, the width of the ids in it, its first bit, and that of its body.
+#[derive(Clone, Copy)]
+pub(crate) struct Opened {
+    pub(crate) id: u32,
+    pub(crate) width: u8,
+    pub(crate) first: u64,
+    pub(crate) body: u64,
 }
 
 /// A value after a space.
@@ -61,11 +71,11 @@ pub(crate) fn put_byte_values(values: &[u8], bytes: &mut [u8], at: usize) -> usi
 
 /// A text and a number.
 #[inline(always)]
-fn put_counted(text: &[u8], number: u64, bytes: &mut [u8], at: usize) -> usize
-    requires { at + length text.now + 20 ≤ length bytes.old }
-    ensures end { (at ≤ result) × (result ≤ at + length text.now + 20) }
+fn put_counted<const N: usize>(text: [u8; N], number: u64, bytes: &mut [u8], at: usize) -> usize
+    requires { at + length text + 20 ≤ length bytes.old }
+    ensures end { (at ≤ result) × (result ≤ at + length text.entry + 20) }
     ensures long { length bytes.new ≡ length bytes.old }
-    ensures wrote { take result bytes.new ≡ take at bytes.old ++ (text.now ++ decimal number) }
+    ensures wrote { take result bytes.new ≡ take at bytes.old ++ (text.entry ++ decimal number) }
 {
     let start = put_text(text, bytes, at);
     put_digits(number, bytes, start)
@@ -80,7 +90,7 @@ pub(crate) fn put_record_head(around: u32, code: u64, bytes: &mut [u8], at: usiz
     ensures wrote { take result bytes.new ≡ take at bytes.old ++ record_line_front around code }
 {
     let start = put_spaces(2 * around as usize, bytes, at);
-    put_counted(b"record ", code, bytes, start)
+    put_counted(*b"record ", code, bytes, start)
 }
 
 /// The line of a record in a listing.
@@ -102,6 +112,19 @@ pub(crate) fn put_record(
     put_byte(b'\n', bytes, end)
 }
 
+/// A bit, a space, and two spaces for each block around.
+#[inline(always)]
+fn put_place(around: u32, bit: u64, bytes: &mut [u8], at: usize) -> usize
+    requires { at + 2 * around + 36 ≤ length bytes.old }
+    ensures end { (at ≤ result) × (result ≤ at + 2 * around + 21) }
+    ensures long { length bytes.new ≡ length bytes.old }
+    ensures wrote { take result bytes.new ≡ take at bytes.old ++ line_front bit around }
+{
+    let place = put_digits(bit, bytes, at);
+    let space = put_byte(b' ', bytes, place);
+    put_spaces(2 * around as usize, bytes, space)
+}
+
 /// The line of a record among events up to its values.
 #[inline(always)]
 pub(crate) fn put_noted_head(around: u32, noted: Noted, bytes: &mut [u8], at: usize) -> usize
@@ -111,12 +134,10 @@ pub(crate) fn put_noted_head(around: u32, noted: Noted, bytes: &mut [u8], at: us
     ensures wrote { take result bytes.new ≡ take at bytes.old
         ++ noted_head around noted.first noted.code noted.abbreviation noted.count }
 {
-    let place = put_digits(noted.first, bytes, at);
-    let space = put_byte(b' ', bytes, place);
-    let start = put_spaces(2 * around as usize, bytes, space);
-    let code = put_counted(b"record ", noted.code, bytes, start);
-    let by = put_counted(b" by ", noted.abbreviation as u64, bytes, code);
-    put_counted(b" count ", noted.count, bytes, by)
+    let start = put_place(around, noted.first, bytes, at);
+    let code = put_counted(*b"record ", noted.code, bytes, start);
+    let by = put_counted(*b" by ", noted.abbreviation as u64, bytes, code);
+    put_counted(*b" count ", noted.count, bytes, by)
 }
 
 /// The line of a record among events, with these values.
@@ -155,9 +176,9 @@ fn put_quoted(number: u64, bytes: &mut [u8], at: usize) -> usize
     put_byte(b'"', bytes, end)
 }
 
-/// A JSON number.
-#[inline(always)]
-pub(crate) fn put_json_number(number: u64, bytes: &mut [u8], at: usize) -> usize
+/// A JSON number of any length.
+#[inline(never)]
+fn put_json_large(number: u64, bytes: &mut [u8], at: usize) -> usize
     requires { at + 22 ≤ length bytes.old }
     ensures end { (at ≤ result) × (result ≤ at + 22) }
     ensures long { length bytes.new ≡ length bytes.old }
@@ -165,6 +186,21 @@ pub(crate) fn put_json_number(number: u64, bytes: &mut [u8], at: usize) -> usize
 {
     if number >= FIRST_QUOTED {
         return put_quoted(number, bytes, at);
+    }
+    put_digits(number, bytes, at)
+}
+
+/// A JSON number.
+#[inline(always)]
+#[tactic(auto, using(crate::proofs::Forwards::short_json))]
+pub(crate) fn put_json_number(number: u64, bytes: &mut [u8], at: usize) -> usize
+    requires { at + 22 ≤ length bytes.old }
+    ensures end { (at ≤ result) × (result ≤ at + 22) }
+    ensures long { length bytes.new ≡ length bytes.old }
+    ensures wrote { take result bytes.new ≡ take at bytes.old ++ number_json number }
+{
+    if number >= 1000 {
+        return put_json_large(number, bytes, at);
     }
     put_digits(number, bytes, at)
 }
@@ -190,12 +226,13 @@ fn put_comma(place: u64, bytes: &mut [u8], at: usize) -> usize
     ensures wrote { take result bytes.new ≡ take at bytes.old ++ comma place }
 {
     if place > 0 {
-        return put_text(b",", bytes, at);
+        return put_text(*b",", bytes, at);
     }
     at
 }
 
 /// The JSON number at a place of a list.
+#[inline(always)]
 pub(crate) fn put_number_item(place: u64, number: u64, bytes: &mut [u8], at: usize) -> usize
     requires { at + 23 ≤ length bytes.old }
     ensures end { (at ≤ result) × (result ≤ at + 23) }
@@ -242,7 +279,7 @@ pub(crate) fn put_list(numbers: &[u64], bytes: &mut [u8], at: usize) -> usize
 /// Numbers of a JSON list, the first of them at a place.
 #[inline(always)]
 #[tactic(auto, using(crate::proofs::Batches::joined_at))]
-pub(crate) fn put_joined(place: usize, numbers: &[u64], bytes: &mut [u8], at: usize) -> usize
+pub(crate) fn put_joined(place: u64, numbers: &[u64], bytes: &mut [u8], at: usize) -> usize
     requires { at + 23 * length numbers.now ≤ length bytes.old }
     ensures end { (at ≤ result) × (result ≤ at + 23 * length numbers.now) }
     ensures long { length bytes.new ≡ length bytes.old }
@@ -255,13 +292,61 @@ pub(crate) fn put_joined(place: usize, numbers: &[u64], bytes: &mut [u8], at: us
     put_list(numbers, bytes, at)
 }
 
+/// Bytes as JSON numbers, a comma before each.
+#[inline(always)]
+fn put_byte_items(values: &[u8], bytes: &mut [u8], at: usize) -> usize
+    requires { at + 23 * length values.now ≤ length bytes.old }
+    ensures end { (at ≤ result) × (result ≤ at + 23 * length values.now) }
+    ensures long { length bytes.new ≡ length bytes.old }
+    ensures wrote { take result bytes.new ≡ take at bytes.old ++ flat_map item_json values.now }
+{
+    let mut end = at;
+    for value in values {
+        end = put_item(*value as u64, bytes, end);
+    }
+    end
+}
+
+/// Bytes as the numbers of a JSON list.
+#[inline(always)]
+fn put_byte_list(values: &[u8], bytes: &mut [u8], at: usize) -> usize
+    requires { at + 23 * length values.now ≤ length bytes.old }
+    ensures end { (at ≤ result) × (result ≤ at + 23 * length values.now) }
+    ensures long { length bytes.new ≡ length bytes.old }
+    ensures wrote { take result bytes.new ≡ take at bytes.old ++ joined number_json values.now }
+{
+    match values.split_first() {
+        Some((first, others)) => {
+            let end = put_json_number(*first as u64, bytes, at);
+            put_byte_items(others, bytes, end)
+        }
+        None => at,
+    }
+}
+
+/// Bytes as numbers of a JSON list, the first of them at a place.
+#[inline(always)]
+#[tactic(auto, using(crate::proofs::Batches::joined_at))]
+pub(crate) fn put_joined_bytes(place: u64, values: &[u8], bytes: &mut [u8], at: usize) -> usize
+    requires { at + 23 * length values.now ≤ length bytes.old }
+    ensures end { (at ≤ result) × (result ≤ at + 23 * length values.now) }
+    ensures long { length bytes.new ≡ length bytes.old }
+    ensures wrote { take result bytes.new
+        ≡ take at bytes.old ++ joined_from number_json place values.now }
+{
+    if place > 0 {
+        return put_byte_items(values, bytes, at);
+    }
+    put_byte_list(values, bytes, at)
+}
+
 /// A text and a JSON number.
 #[inline(always)]
-fn put_after(text: &[u8], number: u64, bytes: &mut [u8], at: usize) -> usize
-    requires { at + length text.now + 22 ≤ length bytes.old }
-    ensures end { (at ≤ result) × (result ≤ at + length text.now + 22) }
+fn put_after<const N: usize>(text: [u8; N], number: u64, bytes: &mut [u8], at: usize) -> usize
+    requires { at + length text + 22 ≤ length bytes.old }
+    ensures end { (at ≤ result) × (result ≤ at + length text.entry + 22) }
     ensures long { length bytes.new ≡ length bytes.old }
-    ensures wrote { take result bytes.new ≡ take at bytes.old ++ (text.now ++ number_json number) }
+    ensures wrote { take result bytes.new ≡ take at bytes.old ++ (text.entry ++ number_json number) }
 {
     let start = put_text(text, bytes, at);
     put_json_number(number, bytes, start)
@@ -276,16 +361,16 @@ fn put_front(around: u32, noted: Noted, bytes: &mut [u8], at: usize) -> usize
     ensures wrote { take result bytes.new ≡ take at bytes.old ++ object_front (codes "record")
         (noted_fields around noted.first noted.code noted.abbreviation noted.count) }
 {
-    let first = put_after(b"{\"kind\":\"record\",\"bit\":", noted.first, bytes, at);
-    let depth = put_after(b",\"depth\":", around as u64, bytes, first);
-    let code = put_after(b",\"code\":", noted.code, bytes, depth);
+    let first = put_after(*b"{\"kind\":\"record\",\"bit\":", noted.first, bytes, at);
+    let depth = put_after(*b",\"depth\":", around as u64, bytes, first);
+    let code = put_after(*b",\"code\":", noted.code, bytes, depth);
     let by = put_after(
-        b",\"abbreviation\":",
+        *b",\"abbreviation\":",
         noted.abbreviation as u64,
         bytes,
         code,
     );
-    put_after(b",\"count\":", noted.count, bytes, by)
+    put_after(*b",\"count\":", noted.count, bytes, by)
 }
 
 /// The line of a record as JSON up to its values.
@@ -299,7 +384,7 @@ pub(crate) fn put_json_head(around: u32, noted: Noted, bytes: &mut [u8], at: usi
         (codes "values") }
 {
     let front = put_front(around, noted, bytes, at);
-    put_text(b",\"values\":[", bytes, front)
+    put_text(*b",\"values\":[", bytes, front)
 }
 
 /// The line of a record as JSON with these values.
@@ -320,7 +405,7 @@ pub(crate) fn put_json_record(
 {
     let list = put_json_head(around, noted, bytes, at);
     let end = put_list(values, bytes, list);
-    put_text(b"]}\n", bytes, end)
+    put_text(*b"]}\n", bytes, end)
 }
 
 /// The line of a record as JSON without its values.
@@ -332,5 +417,96 @@ pub(crate) fn put_json_noted(around: u32, noted: Noted, bytes: &mut [u8], at: us
         (noted_fields around noted.first noted.code noted.abbreviation noted.count) }
 {
     let front = put_front(around, noted, bytes, at);
-    put_text(b"}\n", bytes, front)
+    put_text(*b"}\n", bytes, front)
+}
+
+/// The line of a block in a listing.
+pub(crate) fn put_block_line(around: u32, id: u32, bytes: &mut [u8], at: usize) -> usize
+    requires { at + 2 * around + 128 ≤ length bytes.old }
+    ensures end { (at ≤ result) × (result ≤ at + 2 * around + 128) }
+    ensures long { length bytes.new ≡ length bytes.old }
+    ensures wrote { take result bytes.new ≡ take at bytes.old ++ block_line around id }
+{
+    let start = put_spaces(2 * around as usize, bytes, at);
+    let end = put_counted(*b"block ", id as u64, bytes, start);
+    put_byte(b'\n', bytes, end)
+}
+
+/// The line of a block's beginning among events.
+pub(crate) fn put_opened_line(around: u32, opened: Opened, bytes: &mut [u8], at: usize) -> usize
+    requires { at + 2 * around + 128 ≤ length bytes.old }
+    ensures end { (at ≤ result) × (result ≤ at + 2 * around + 128) }
+    ensures long { length bytes.new ≡ length bytes.old }
+    ensures wrote { take result bytes.new ≡ take at bytes.old
+        ++ line_at opened.first around (opened_text opened.id opened.width opened.body) }
+{
+    let start = put_place(around, opened.first, bytes, at);
+    let id = put_counted(*b"block ", opened.id as u64, bytes, start);
+    let width = put_counted(*b" width ", opened.width as u64, bytes, id);
+    let end = put_counted(*b" body ", opened.body, bytes, width);
+    put_byte(b'\n', bytes, end)
+}
+
+/// The line of a definition among events up to its operands.
+pub(crate) fn put_definition_head(around: u32, first: u64, bytes: &mut [u8], at: usize) -> usize
+    requires { at + 2 * around + 128 ≤ length bytes.old }
+    ensures end { (at ≤ result) × (result ≤ at + 2 * around + 128) }
+    ensures long { length bytes.new ≡ length bytes.old }
+    ensures wrote { take result bytes.new ≡ take at bytes.old ++ definition_head around first }
+{
+    let start = put_place(around, first, bytes, at);
+    put_text(*b"define ", bytes, start)
+}
+
+/// The line of a block's end among events, with `around` blocks around it.
+pub(crate) fn put_end_line(around: u32, after: u64, bytes: &mut [u8], at: usize) -> usize
+    requires { at + 2 * around + 128 ≤ length bytes.old }
+    ensures end { (at ≤ result) × (result ≤ at + 2 * around + 128) }
+    ensures long { length bytes.new ≡ length bytes.old }
+    ensures wrote { take result bytes.new ≡ take at bytes.old ++ line_at after around (codes "end") }
+{
+    let start = put_place(around, after, bytes, at);
+    put_text(*b"end\n", bytes, start)
+}
+
+/// The line of a block's beginning as JSON.
+pub(crate) fn put_opened_object(around: u32, opened: Opened, bytes: &mut [u8], at: usize) -> usize
+    requires { at + 270 ≤ length bytes.old }
+    ensures end { (at ≤ result) × (result ≤ at + 270) }
+    ensures long { length bytes.new ≡ length bytes.old }
+    ensures wrote { take result bytes.new ≡ take at bytes.old ++ object_line (codes "block")
+        (opened_fields around opened.id opened.width opened.first opened.body) }
+{
+    let first = put_after(*b"{\"kind\":\"block\",\"bit\":", opened.first, bytes, at);
+    let depth = put_after(*b",\"depth\":", around as u64, bytes, first);
+    let id = put_after(*b",\"id\":", opened.id as u64, bytes, depth);
+    let width = put_after(*b",\"width\":", opened.width as u64, bytes, id);
+    let body = put_after(*b",\"body\":", opened.body, bytes, width);
+    put_text(*b"}\n", bytes, body)
+}
+
+/// The line of a definition as JSON up to its operands.
+pub(crate) fn put_definition_list(around: u32, first: u64, bytes: &mut [u8], at: usize) -> usize
+    requires { at + 270 ≤ length bytes.old }
+    ensures end { (at ≤ result) × (result ≤ at + 270) }
+    ensures long { length bytes.new ≡ length bytes.old }
+    ensures wrote { take result bytes.new ≡ take at bytes.old ++ list_front (codes "define")
+        (place_fields around first) (codes "operands") }
+{
+    let bit = put_after(*b"{\"kind\":\"define\",\"bit\":", first, bytes, at);
+    let depth = put_after(*b",\"depth\":", around as u64, bytes, bit);
+    put_text(*b",\"operands\":[", bytes, depth)
+}
+
+/// The line of a block's end as JSON, with `around` blocks around it.
+pub(crate) fn put_end_object(around: u32, after: u64, bytes: &mut [u8], at: usize) -> usize
+    requires { at + 270 ≤ length bytes.old }
+    ensures end { (at ≤ result) × (result ≤ at + 270) }
+    ensures long { length bytes.new ≡ length bytes.old }
+    ensures wrote { take result bytes.new ≡ take at bytes.old ++ object_line (codes "end")
+        (place_fields around after) }
+{
+    let bit = put_after(*b"{\"kind\":\"end\",\"bit\":", after, bytes, at);
+    let depth = put_after(*b",\"depth\":", around as u64, bytes, bit);
+    put_text(*b"}\n", bytes, depth)
 }

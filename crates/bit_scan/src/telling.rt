@@ -1,6 +1,7 @@
 //! The events of an input as lines, written as they are read.
 
-ghost use Rattle.std.specs.Prelude.{◌≡◌, ◌≤◌, ◌++◌, IfSome, OnOk, [], codes, flat_map, length, OnErr, Some, None};
+ghost use Rattle.std.specs.Prelude.{◌≡◌, ◌≤◌, ◌<◌, ◌+◌, ◌^◌, ◌++◌, IfSome, OnOk, [], codes, flat_map, length, OnErr, Some, None};
+ghost use Rattle.std.proofs.Math.ListN.{replicate};
 ghost use Rattle.bit_grammar.specs.EventTexts.{line_at, op_text, ops_text, shown_values, noted_text, event_line};
 ghost use Rattle.bit_grammar.specs.Texts.{values_text};
 ghost use Rattle.bit_grammar.specs.Steps.{open_after};
@@ -8,20 +9,19 @@ ghost use Rattle.bit_grammar.specs.declared.op.Op.{Op};
 ghost use Rattle.bit_fields.specs.Opening.{head_told};
 ghost use Rattle.bit_events.specs.Coming.{going};
 ghost use Rattle.bit_events.specs.EventView.{event_shown};
-ghost use Rattle.bit_scan.specs.Json.{ArePlain, event_json, fields_told, joined, list_line, noted_fields, noted_json, number_json, op_json};
+ghost use Rattle.bit_scan.specs.Json.{event_json, joined, joined_from, list_line, noted_fields, noted_json, number_json, op_json, place_fields};
 ghost use Rattle.bit_scan.specs.Printing.{Prints, PrintsWhole, Printed};
 ghost use Rattle.bit_scan.specs.Styles.{fault_as, head_as, refusal_as, styled_event};
 ghost use Rattle.bit_scan.specs.Telling.{FailsLine, PrintsLast, TellsRest, TellsAll, TellsInput};
 
 use crate::analysing::begin_of;
 use crate::format::{EventStyle, Format};
-use crate::json::Field;
 use crate::listing::{around_after, few_of, kept, write_values};
 use crate::printer::Printer;
-use crate::record_lines::Noted;
+use crate::record_lines::{Noted, Opened};
 use bit_abbrev::Abbrev;
 use bit_events::{Event, Gatherer, PackedEvent, PackedEvents};
-use bit_fields::{Fault, Head, Limits, PackedValues, Reason, Sink, Source};
+use bit_fields::{Fault, Head, Limits, PackedValues, Reason, Sink, Source, WideSlice};
 use bit_grammar::{Op, ValueDisplay};
 use std::alloc::{AllocError, Global};
 
@@ -168,7 +168,15 @@ fn write_line<K: Sink>(
             width,
             first,
             body,
-        } => printer.opened_line(around, id, width, first, body),
+        } => {
+            let opened = Opened {
+                id,
+                width,
+                first,
+                body,
+            };
+            printer.opened_line(around, opened)
+        }
         Event::Define { abbrev, first, .. } => {
             write_definition(printer, around, first, abbrev.ops())
         }
@@ -187,7 +195,7 @@ fn write_line<K: Sink>(
             };
             write_noted(printer, around, noted, values, listed)
         }
-        Event::Leave { after } => printer.end_line(around, after),
+        Event::Leave { after } => printer.end_line(around.saturating_sub(1), after),
     }
 }
 
@@ -204,40 +212,95 @@ fn write_json_operands<K: Sink>(printer: &mut Printer<K>, ops: &[Op]) -> Result<
 /// Writes the line of a definition as JSON.
 fn write_json_definition<K: Sink>(
     printer: &mut Printer<K>,
-    fields: &[Field<'_>],
+    around: u32,
+    first: u64,
     ops: &[Op],
 ) -> Result<(), Fault>
-    requires { ArePlain fields.now }
-    ensures { Prints (list_line (codes "define") (fields_told fields.now) (codes "operands")
+    ensures { Prints (list_line (codes "define") (place_fields around first) (codes "operands")
         (joined op_json ops.now)) printer.old result printer.new }
 {
-    printer.list_front("define", fields, "operands")?;
+    printer.definition_list(around, first)?;
     write_json_operands(printer, ops)?;
     printer.list_end()
 }
 
-/// Writes numbers as the items of a JSON list.
-fn write_json_numbers<K: Sink>(printer: &mut Printer<K>, numbers: &[u64]) -> Result<(), Fault>
-    ensures { Prints (joined number_json numbers.now) printer.old result printer.new }
+/// Writes wide values as the items of a JSON list.
+fn write_json_wide<K: Sink>(
+    printer: &mut Printer<K>,
+    mut values: WideSlice<'_>,
+) -> Result<(), Fault>
+    requires { length values < 2 ^ 64 }
+    ensures { Prints (joined number_json values.entry) printer.old result printer.new }
 {
     let mut place = 0;
-    while place < numbers.len() {
-        let count = (numbers.len() - place).min(printer.most());
-        printer.items(place, &numbers[place..place + count])?;
+    while let Some(value) = values.take_first() {
+        printer.number_item(place, value)?;
+        place += 1;
+    }
+    Ok(())
+}
+
+/// Writes bytes as items of a JSON list, the first of them at a place.
+fn write_json_bytes<K: Sink>(
+    printer: &mut Printer<K>,
+    first: u64,
+    bytes: &[u8],
+) -> Result<(), Fault>
+    requires { first + length bytes.now < 2 ^ 64 }
+    ensures { Prints (joined_from number_json first bytes.now) printer.old result printer.new }
+{
+    let mut place = 0;
+    while place < bytes.len() {
+        let count = (bytes.len() - place).min(printer.most());
+        printer.byte_items(first + place as u64, &bytes[place..place + count])?;
         place += count;
     }
     Ok(())
 }
 
-/// Writes values, which may be in several parts, as the items of a JSON list.
+/// Writes `count` zeros as items of a JSON list, the first of them at a place.
+fn write_json_zeros<K: Sink>(printer: &mut Printer<K>, first: u64, count: u64) -> Result<(), Fault>
+    requires { first + count < 2 ^ 64 }
+    ensures { Prints (joined_from number_json first (replicate count 0)) printer.old result
+        printer.new }
+{
+    for index in 0..count {
+        printer.number_item(first + index, 0)?;
+    }
+    Ok(())
+}
+
+/// Writes numbers as items of a JSON list, the first of them at a place.
+fn write_json_numbers<K: Sink>(
+    printer: &mut Printer<K>,
+    first: u64,
+    numbers: &[u64],
+) -> Result<(), Fault>
+    requires { first + length numbers.now < 2 ^ 64 }
+    ensures { Prints (joined_from number_json first numbers.now) printer.old result printer.new }
+{
+    let mut place = 0;
+    while place < numbers.len() {
+        let count = (numbers.len() - place).min(printer.most());
+        printer.items(first + place as u64, &numbers[place..place + count])?;
+        place += count;
+    }
+    Ok(())
+}
+
+/// Writes values in up to four parts as the items of a JSON list.
 #[inline(never)]
 fn write_json_parts<K: Sink>(printer: &mut Printer<K>, values: &PackedValues) -> Result<(), Fault>
     ensures { Prints (joined number_json values.now) printer.old result printer.new }
 {
-    for place in 0..values.len() {
-        printer.number_item(place, values.get(place).unwrap())?;
-    }
-    Ok(())
+    let parts = values.parts();
+    let recent = values.len() - parts.recent.len() as u64;
+    let zeros = recent - parts.zeros;
+    let bytes = zeros - parts.bytes.len() as u64;
+    write_json_wide(printer, parts.wide)?;
+    write_json_bytes(printer, bytes, parts.bytes)?;
+    write_json_zeros(printer, zeros, parts.zeros)?;
+    write_json_numbers(printer, recent, parts.recent)
 }
 
 /// Writes values as the items of a JSON list. Those of most records are one part.
@@ -246,7 +309,7 @@ fn write_json_items<K: Sink>(printer: &mut Printer<K>, values: &PackedValues) ->
 {
     let recent = values.parts().recent;
     if recent.len() as u64 == values.len() {
-        return write_json_numbers(printer, recent);
+        return write_json_numbers(printer, 0, recent);
     }
     write_json_parts(printer, values)
 }
@@ -340,19 +403,17 @@ fn write_json_line<K: Sink>(
             width,
             first,
             body,
-        } => printer.object_line(
-            "block",
-            &[
-                ("bit", first),
-                ("depth", around as u64),
-                ("id", id as u64),
-                ("width", width as u64),
-                ("body", body),
-            ],
-        ),
+        } => {
+            let opened = Opened {
+                id,
+                width,
+                first,
+                body,
+            };
+            printer.opened_object(around, opened)
+        }
         Event::Define { abbrev, first, .. } => {
-            let fields = [("bit", first), ("depth", around as u64)];
-            write_json_definition(printer, &fields, abbrev.ops())
+            write_json_definition(printer, around, first, abbrev.ops())
         }
         Event::Record {
             abbrev,
@@ -369,10 +430,7 @@ fn write_json_line<K: Sink>(
             };
             write_json_record(printer, around, noted, values, listed)
         }
-        Event::Leave { after } => {
-            let depth = around.saturating_sub(1);
-            printer.object_line("end", &[("bit", after), ("depth", depth as u64)])
-        }
+        Event::Leave { after } => printer.end_object(around.saturating_sub(1), after),
     }
 }
 

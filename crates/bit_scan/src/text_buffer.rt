@@ -1,15 +1,18 @@
 //! Text in a buffer. The bytes after it may have any values, so that a line is written where it is to stand.
 
 ghost use Rattle.std.specs.Prelude.{◌≡◌, ◌+◌, ◌*◌, ◌≤◌, [], ◌∷◌, ◌++◌, OnOk, codes, decimal, length, take};
-ghost use Rattle.bit_grammar.specs.Texts.{values_text, record_line};
+ghost use Rattle.bit_grammar.specs.EventTexts.{line_at, opened_text};
+ghost use Rattle.bit_grammar.specs.Texts.{block_line, values_text, record_line};
 ghost use Rattle.bit_scan.specs.Adding.{Adds};
-ghost use Rattle.bit_scan.specs.Json.{comma, joined, joined_from, list_front, list_line, noted_fields, number_json, object_line};
-ghost use Rattle.bit_scan.specs.Lines.{noted_head, record_line_front};
+ghost use Rattle.bit_scan.specs.Json.{comma, joined, joined_from, list_front, list_line, noted_fields, number_json, object_line, opened_fields, place_fields};
+ghost use Rattle.bit_scan.specs.Lines.{definition_head, noted_head, record_line_front};
 
-use crate::digits::put_text;
+use crate::digits::put_slice;
 use crate::record_lines::{
-    Noted, put_byte_values, put_joined, put_json_head, put_json_noted, put_json_record, put_noted,
-    put_noted_head, put_number_item, put_record, put_record_head, put_value, put_values,
+    Noted, Opened, put_block_line, put_byte_values, put_definition_head, put_definition_list,
+    put_end_line, put_end_object, put_joined, put_joined_bytes, put_json_head, put_json_noted,
+    put_json_record, put_noted, put_noted_head, put_number_item, put_opened_line,
+    put_opened_object, put_record, put_record_head, put_value, put_values,
 };
 use std::alloc::{AllocError, Global};
 use std::marker::Model;
@@ -112,7 +115,7 @@ impl TextBuffer {
         ensures { OnOk result (self.new ≡ self.old ++ text.now) }
     {
         make_room(&mut self.bytes, self.used, text.len())?;
-        self.used = put_text(text, &mut self.bytes, self.used);
+        self.used = put_slice(text, &mut self.bytes, self.used);
         Ok(())
     }
 
@@ -146,12 +149,22 @@ impl TextBuffer {
     }
 
     /// Appends at most a batch of numbers of a JSON list, the first of them at a place.
-    pub(crate) fn push_items(&mut self, place: usize, numbers: &[u64]) -> Result<(), AllocError>
+    pub(crate) fn push_items(&mut self, place: u64, numbers: &[u64]) -> Result<(), AllocError>
         requires { length numbers.now ≤ 64 }
         ensures { OnOk result (self.new ≡ self.old ++ joined_from number_json place numbers.now) }
     {
         make_room(&mut self.bytes, self.used, LINE)?;
         self.used = put_joined(place, numbers, &mut self.bytes, self.used);
+        Ok(())
+    }
+
+    /// Appends at most a batch of bytes as numbers of a JSON list, the first of them at a place.
+    pub(crate) fn push_byte_items(&mut self, place: u64, values: &[u8]) -> Result<(), AllocError>
+        requires { length values.now ≤ 64 }
+        ensures { OnOk result (self.new ≡ self.old ++ joined_from number_json place values.now) }
+    {
+        make_room(&mut self.bytes, self.used, LINE)?;
+        self.used = put_joined_bytes(place, values, &mut self.bytes, self.used);
         Ok(())
     }
 
@@ -201,6 +214,76 @@ impl TextBuffer {
     {
         make_room(&mut self.bytes, self.used, LINE)?;
         self.used = put_json_noted(around, noted, &mut self.bytes, self.used);
+        Ok(())
+    }
+
+    /// Appends the line of a block in a listing.
+    pub(crate) fn push_block_line(&mut self, around: u32, id: u32) -> Result<(), AllocError>
+        ensures { OnOk result (self.new ≡ self.old ++ block_line around id) }
+    {
+        make_room(&mut self.bytes, self.used, LINE + 2 * around as usize)?;
+        self.used = put_block_line(around, id, &mut self.bytes, self.used);
+        Ok(())
+    }
+
+    /// Appends the line of a block's beginning among events.
+    pub(crate) fn push_opened_line(&mut self, around: u32, opened: Opened) -> Result<(), AllocError>
+        ensures { OnOk result (self.new ≡ self.old ++ line_at opened.first around
+            (opened_text opened.id opened.width opened.body)) }
+    {
+        make_room(&mut self.bytes, self.used, LINE + 2 * around as usize)?;
+        self.used = put_opened_line(around, opened, &mut self.bytes, self.used);
+        Ok(())
+    }
+
+    /// Appends the line of a definition among events up to its operands.
+    pub(crate) fn push_definition_head(&mut self, around: u32, first: u64) -> Result<(), AllocError>
+        ensures { OnOk result (self.new ≡ self.old ++ definition_head around first) }
+    {
+        make_room(&mut self.bytes, self.used, LINE + 2 * around as usize)?;
+        self.used = put_definition_head(around, first, &mut self.bytes, self.used);
+        Ok(())
+    }
+
+    /// Appends the line of a block's end among events.
+    pub(crate) fn push_end_line(&mut self, around: u32, after: u64) -> Result<(), AllocError>
+        ensures { OnOk result (self.new ≡ self.old ++ line_at after around (codes "end")) }
+    {
+        make_room(&mut self.bytes, self.used, LINE + 2 * around as usize)?;
+        self.used = put_end_line(around, after, &mut self.bytes, self.used);
+        Ok(())
+    }
+
+    /// Appends the line of a block's beginning as JSON.
+    pub(crate) fn push_opened_object(
+        &mut self,
+        around: u32,
+        opened: Opened,
+    ) -> Result<(), AllocError>
+        ensures { OnOk result (self.new ≡ self.old ++ object_line (codes "block")
+            (opened_fields around opened.id opened.width opened.first opened.body)) }
+    {
+        make_room(&mut self.bytes, self.used, LINE)?;
+        self.used = put_opened_object(around, opened, &mut self.bytes, self.used);
+        Ok(())
+    }
+
+    /// Appends the line of a definition as JSON up to its operands.
+    pub(crate) fn push_definition_list(&mut self, around: u32, first: u64) -> Result<(), AllocError>
+        ensures { OnOk result (self.new ≡ self.old ++ list_front (codes "define")
+            (place_fields around first) (codes "operands")) }
+    {
+        make_room(&mut self.bytes, self.used, LINE)?;
+        self.used = put_definition_list(around, first, &mut self.bytes, self.used);
+        Ok(())
+    }
+
+    /// Appends the line of a block's end as JSON.
+    pub(crate) fn push_end_object(&mut self, around: u32, after: u64) -> Result<(), AllocError>
+        ensures { OnOk result (self.new ≡ self.old ++ object_line (codes "end") (place_fields around after)) }
+    {
+        make_room(&mut self.bytes, self.used, LINE)?;
+        self.used = put_end_object(around, after, &mut self.bytes, self.used);
         Ok(())
     }
 

@@ -5,7 +5,8 @@ use Rattle.std.specs.Global.{Vec}
 use Rattle.std.specs.Prelude.{OnOk}
 use Rattle.std.specs.declared.alloc.AllocError.{AllocError}
 use Rattle.bit_grammar.specs.Blocks.{Limits}
-use Rattle.bit_grammar.specs.Input.{SpellsInput}
+use Rattle.bit_grammar.specs.Forest.{Fit}
+use Rattle.bit_grammar.specs.Input.{tree_of, SpellsInput}
 use Rattle.bit_grammar.specs.Terms.{Head, Marked}
 use Rattle.bit_grammar.proofs.NormalForms.Fits.{fit_of_spelled}
 use Rattle.bit_grammar.specs.Machine.{Event, leaves, flat}
@@ -22,7 +23,6 @@ use Rattle.bit_tree.specs.declared.marked_builder.MarkedBuilder.{MarkedBuilder}
 use Rattle.bit_tree.specs.declared.marked_builder.MarkedFrame.{MarkedFrame}
 use Rattle.bit_tree.specs.MarkedFrames.{flat_item, flat_frames, built_from, IsBuiltFrom}
 use Rattle.bit_tree.specs.MarkedView.{marks_of_blocks}
-use Rattle.bit_tree.specs.Reading.{SpellsFit}
 use Rattle.bit_tree.proofs.MarkedFlats.{flat_frames-push}
 
 one_less : (count : ℕ) → suc count - 1 ≡ count
@@ -81,7 +81,7 @@ some_left (suc n) e = omega arith
 
 -- a marked tree
 pub marked_fit : (limits : Limits) (bytes : List ℕ) (first last : MarkedBuilder) (head : Head) (marks : Marks) (after : ℕ) → Gathered (λ (first : MarkedBuilder) (events : List Event) (last : MarkedBuilder). IsBuiltFrom events last) limits bytes first head last after
-    → ((m : Marks) → IsBuiltFrom (flat m []) last → marks ≡ m) → SpellsFit limits bytes (record { head = head; blocks = marks; after = after })
+    → ((m : Marks) → IsBuiltFrom (flat m []) last → marks ≡ m) → SpellsInput limits bytes (record { head = head; blocks = marks; after = after }) × Fit (tree_of (record { head = head; blocks = marks; after = after }))
 marked_fit limits bytes first last head marks after found finished =
     let m = found.marked in
     let same : ◌≡◌ {A = Marked} (record { head = m.head; blocks = m.blocks; after = m.after }) (record { head = head; blocks = marks; after = after }) = rw (found.is_head, found.is_after, finished m.blocks found.gathers) refl in

@@ -3,14 +3,7 @@ use Rattle.std.specs.Prelude.{ℕ, List}
 use Rattle.bit_grammar.specs.Setting.{Setting}
 use Rattle.bit_grammar.specs.Forest.{Tree, Fit}
 use Rattle.bit_grammar.specs.Blocks.{Limits}
-use Rattle.bit_grammar.specs.Input.{SpellsInput}
-use Rattle.bit_grammar.specs.Terms.{Marked}
 use Rattle.bit_grammar.specs.Normal.{HasTree}
-use Rattle.bit_grammar.specs.Input as input
-
--- the bytes spell this marked tree, and its tree is fit
-abbrev pub SpellsFit : Limits → List ℕ → Marked → Type 0
-SpellsFit limits bytes m = SpellsInput limits bytes m × Fit (input.tree_of m)
 
 -- the bytes spell a marked tree with this tree under a setting, and the tree is fit
 abbrev pub HasFit : Setting → Limits → List ℕ → Tree → Type 0

@@ -1,20 +1,19 @@
-ghost use Rattle.std.specs.Prelude.{◌≡◌, ◌↔◌, IfOk, IfErr, IsOk};
+ghost use Rattle.std.specs.Prelude.{◌≡◌, IfOk};
 ghost use Rattle.bit_grammar.specs.Forest.{Fit};
 ghost use Rattle.bit_grammar.specs.Input as input;
 ghost use Rattle.bit_grammar.specs.Marks.{forest_of};
 ghost use Rattle.bit_grammar.specs.Setting.{setting_of};
 ghost use Rattle.bit_grammar.specs.Under.{items_under, under};
-ghost use Rattle.bit_tree.specs.Judging.{IsFirstReason};
 ghost use Rattle.bit_tree.specs.TreeView.{forest_of_blocks};
 ghost use Rattle.bit_tree.specs.MarkedView.{marks_of_blocks};
 
-use crate::document::{BadDocument, Document};
+use crate::document::Document;
 use crate::marked::{Marked, MarkedBlock, MarkedItem, MarkedItems};
 use crate::tree::{Block, Item, Items, Record, Values};
 use bit_grammar::Info;
 use std::alloc::{AllocError, Global};
 
-/// The tree of a marked tree.
+/// The tree of a marked tree. That of an input that was read is fit.
 pub fn tree_of(alloc: Global, marked: &Marked) -> Result<Document, AllocError>
     requires { Fit (input.tree_of marked.now) }
     ensures { IfOk result (λ document. document ≡ input.tree_of marked.now) }
@@ -30,26 +29,6 @@ pub fn tree_with(alloc: Global, marked: &Marked, info: Info<'_>) -> Result<Docum
 {
     let blocks = blocks_of(alloc, &marked.blocks.0, info)?;
     Ok(Document::of(marked.head.magic, blocks))
-}
-
-/// The tree of a marked tree under a setting, or its blocks and why it is not fit.
-///
-/// The tree of an input that was read is fit, and `tree_of` needs that. If the bytes of the source are not known, as those of a file
-/// or a pipe, no clause says so. This call judges the tree.
-pub fn judged_tree_with(
-    alloc: Global,
-    marked: &Marked,
-    info: Info<'_>,
-) -> Result<Result<Document, BadDocument>, AllocError>
-    ensures fit { IfOk result (λ judged. IsOk judged
-        ↔ Fit (under (setting_of info.entry) (input.tree_of marked.now))) }
-    ensures tree { IfOk result (λ judged. IfOk judged (λ document. document
-        ≡ under (setting_of info.entry) (input.tree_of marked.now))) }
-    ensures reason { IfOk result (λ judged. IfErr judged (λ bad. IsFirstReason
-        (under (setting_of info.entry) (input.tree_of marked.now)) bad.reason)) }
-{
-    let blocks = blocks_of(alloc, &marked.blocks.0, info)?;
-    Ok(Document::new(marked.head.magic, blocks))
 }
 
 /// Whether an item of a block with this id is kept in the tree.

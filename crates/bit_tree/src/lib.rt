@@ -4,7 +4,7 @@
 //!
 //! Trees are plain types over vectors. Contracts see a list of items as one `Forest`, in which each item carries those after it,
 //! and a marked list as `Marks`. `read` is a fold into `MarkedBuilder`: what is built so far, before whatever follows, is the
-//! marked tree. `tree_with` makes the tree that a setting leaves, and `judged_tree_with` that of a source whose bytes are not known.
+//! marked tree. `tree_with` makes the tree that a setting leaves.
 #![tactic(auto)]
 
 #[cfg(test)]
@@ -23,7 +23,7 @@ mod tree;
 
 pub use bit_events::{Event, Events};
 pub use bit_grammar::{Info, RecordName, not_both, one_fault, one_tree, tree_or_fault};
-pub use copying::{judged_tree_with, tree_of, tree_with};
+pub use copying::{tree_of, tree_with};
 pub use document::{BadDocument, Document, DocumentReason};
 pub use marked::{
     Marked, MarkedBlock, MarkedBlocks, MarkedDefine, MarkedItem, MarkedItems, MarkedRecord,

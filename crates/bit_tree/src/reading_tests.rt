@@ -2,7 +2,7 @@
 
 use crate::copying::blocks_of;
 use crate::tests::{agrees, blocks_text, document_text, is_fit};
-use crate::{Document, Info, Marked, MarkedItem, judged_tree_with, read, tree_of, tree_with};
+use crate::{Document, Info, Marked, MarkedItem, read, tree_of, tree_with};
 use bit_fields::{BitWriter, Fault, Limits, ReadSource, SliceSource, Source, VecSink};
 use std::alloc::{AllocError, Global};
 use std::io;
@@ -559,31 +559,18 @@ fn shown_marked(alloc: Global, bytes: &[u8]) -> Result<String, AllocError> {
     }
 }
 
-/// The document of an input. The tree that is read of a slice is fit.
-fn document_of(alloc: Global, bytes: &[u8]) -> Result<Document, Fault> {
-    let (answer, _) = read(alloc, SliceSource::new(bytes), Limits::usual());
+/// The document of an input. The tree that is read is fit, also of a source whose bytes no clause knows.
+fn document_of<S: Source + Drop>(alloc: Global, source: S) -> Result<Document, Fault> {
+    let (answer, _) = read(alloc, source, Limits::usual());
     let marked = answer?;
     tree_of(alloc, &marked).map_err(|_| Fault::Memory)
 }
 
 /// The document of an input, as text.
-fn told_of_document(alloc: Global, bytes: &[u8]) -> Result<String, AllocError> {
-    match document_of(alloc, bytes) {
+fn told_of_document<S: Source + Drop>(alloc: Global, source: S) -> Result<String, AllocError> {
+    match document_of(alloc, source) {
         Ok(document) => document_text(alloc, &document),
         Err(fault) => told_of_fault(alloc, fault),
-    }
-}
-
-/// The document of an input from a reader, whose bytes no clause knows, as text.
-fn told_of_piped_document(alloc: Global, bytes: &[u8]) -> Result<String, AllocError> {
-    let (answer, _) = read(alloc, in_pieces(bytes, 5, 0), Limits::usual());
-    let marked = match answer {
-        Ok(marked) => marked,
-        Err(fault) => return told_of_fault(alloc, fault),
-    };
-    match judged_tree_with(alloc, &marked, Info::Keep)? {
-        Ok(document) => document_text(alloc, &document),
-        Err(bad) => format!(in alloc; "{}", bad.reason),
     }
 }
 
@@ -591,13 +578,10 @@ fn told_of_piped_document(alloc: Global, bytes: &[u8]) -> Result<String, AllocEr
 fn marked_trees_and_documents(rt: HostRuntime) {
     for (text, document, marked) in &MARKED {
         let bytes = bytes_of(rt.alloc(), text).expect(&rt, "memory");
-        agrees(&rt, told_of_document(rt.alloc(), &bytes), document, text);
-        agrees(
-            &rt,
-            told_of_piped_document(rt.alloc(), &bytes),
-            document,
-            text,
-        );
+        let whole = told_of_document(rt.alloc(), SliceSource::new(&bytes));
+        agrees(&rt, whole, document, text);
+        let piped = told_of_document(rt.alloc(), in_pieces(&bytes, 5, 0));
+        agrees(&rt, piped, document, text);
         agrees(&rt, shown_marked(rt.alloc(), &bytes), marked, text);
     }
 }

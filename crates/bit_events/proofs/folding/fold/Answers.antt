@@ -13,7 +13,7 @@ pub returns-in-Err-clause-whole : goal.returns-in-Err-clause-whole
 returns-in-Err-clause-whole g c = not_begun {A = Unit {0}} (λ bytes done. Unit {0}) c.args.limits (g.S.Source.incoming c.args.source) (g.S.Source.incoming c.in-Err.source) c.in-Err.fault (declined c.args.limits (g.S.Source.incoming c.args.source) c.in-Err.fault (g.S.Source.incoming c.in-Err.source) (omega (arith, c.bytes-bytes.ensures.capped.bytes)) c.in-Err.ensures.refused)
 
 pub returns-in-Ok-done-clause-some : goal.returns-in-Ok-done-clause-some
-returns-in-Ok-done-clause-some g c = some_gathered g.G.Gatherer.gathered c.args.limits c.new-machine.result c.in-Ok.begun.0 c.args.gatherer c.gather_rest-done.new.machine c.gather_rest-done.new.reader c.gather_rest-done.new.gatherer c.requires c.new-machine.ensures.none c.in-Ok-done.ensures
+returns-in-Ok-done-clause-some g c = some_gathered g.G.Gatherer.gathered c.args.limits (g.S.Source.incoming c.args.source) c.in-Ok.begun.1 c.new-machine.result c.in-Ok.begun.0 c.args.gatherer c.gather_rest-done.new.machine c.gather_rest-done.new.reader c.gather_rest-done.new.gatherer c.position-after.result c.bytes-bytes.ensures.capped c.in-Ok.ensures.begun c.new-machine.ensures.machine c.new-machine.ensures.none c.requires c.position-after.ensures.position c.in-Ok-done.ensures
 
 pub returns-in-Ok-done-clause-whole : goal.returns-in-Ok-done-clause-whole
 returns-in-Ok-done-clause-whole g c =

@@ -1,10 +1,12 @@
-use Rattle.std.proofs.Common.{◌<◌, ◌≤◌, ◌+◌, ◌/◌, length, refl, ap, sym, arith}
+use Rattle.std.proofs.Common.{◌<◌, ◌≤◌, ◌+◌, ◌/◌, [], length, refl, ap, sym, arith}
 use Rattle.bit_grammar.specs.Blocks.{Limits}
 use Rattle.bit_grammar.specs.Forest.{Tree}
+use Rattle.bit_grammar.specs.Machine.{flat}
 use Rattle.bit_grammar.specs.Size.{size_of}
 use Rattle.bit_fields.specs.Opening.{head_told, magic_number}
 use Rattle.bit_tree.specs.Reading.{HasFit}
 use Rattle.bit_grammar.specs.Setting.{setting_of}
+use Rattle.bit_tree.proofs.Gathered.{open_behind-flat}
 use Rattle.bit_norm.specs.Building.{left_events}
 use Rattle.bit_norm.specs.Told.{told_at_level}
 use Rattle.bit_norm.proofs.Forms.{Found, found, form_bytes, wrote_form, read_tree, unread}
@@ -20,7 +22,8 @@ returns-in-Err g c =
 pub give-written-requires-clause-whole : goal.give-written-requires-clause-whole
 give-written-requires-clause-whole g c =
     let some = rw c.in-Ok.is at c.fold-answer.ensures.some in
-    (c.in-Some.ensures.form c.new-builder.result some.0 some.1 some.2).1
+    let m = some.1.marked in
+    (c.in-Some.ensures.form c.new-builder.result (flat m.blocks []) some.1.gathers (open_behind-flat m.blocks [] 0)).1
 
 pub returns-in-Some : goal.returns-in-Some
 returns-in-Some g c =

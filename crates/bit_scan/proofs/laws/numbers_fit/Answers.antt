@@ -1,8 +1,9 @@
-use Rattle.bit_scan.proofs.Exact.{numbers_fit, stream_fits}
+use Rattle.bit_scan.proofs.EventReadings.{outlook_fits}
+use Rattle.bit_scan.proofs.Exact.{report_fits}
 use Rattle.bit_scan.proofs.laws.numbers_fit.Goals as goal
 
-pub returns-clause-rows : goal.returns-clause-rows
-returns-clause-rows c = numbers_fit
+pub returns-clause-told : goal.returns-clause-told
+returns-clause-told c = outlook_fits
 
-pub returns-clause-stream : goal.returns-clause-stream
-returns-clause-stream c = stream_fits
+pub returns-clause-report : goal.returns-clause-report
+returns-clause-report c = report_fits

@@ -24,4 +24,4 @@ loop-place-preserved g c =
     goes_on (joined op_json ops) c.args.printer.now (comma i ++ op_json (get_or ops i (Literal 0))) (joined_from op_json (i + 1) (drop (i + 1) ops)) c.loop-place.printer c.op_item.new.self (next_item op_json (joined op_json ops) c.args.printer.now c.loop-place.printer ops i (Literal 0) (omega arith) c.loop-place.invariant) c.in_ok-op_item.ensures
 
 pub returns : goal.returns
-returns g c = last_item op_json (joined op_json c.args.ops.now) c.args.printer.now c.loop-place.printer c.args.ops.now c.loop-place.place (omega arith) c.loop-place.invariant
+returns g c = last_item op_json (joined op_json c.args.ops.now) c.args.printer.now c.loop-place.printer c.args.ops.now c.loop-place.place c.loop-place.place (omega arith) c.loop-place.invariant

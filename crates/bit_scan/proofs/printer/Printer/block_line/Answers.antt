@@ -1,4 +1,4 @@
-use Rattle.std.proofs.Common.{List, string_bytes, ℕ}
+use Rattle.std.proofs.Common.{List, ℕ}
 use Rattle.bit_grammar.specs.Texts.{block_line}
 use Rattle.bit_scan.proofs.Prints.{piece_settled}
 use Rattle.bit_scan.proofs.printer.Printer.block_line.Goals as goal
@@ -6,6 +6,6 @@ use Rattle.bit_scan.proofs.printer.Printer.block_line.Goals as goal
 pub returns : goal.returns
 returns g c =
     let text : List ℕ = block_line c.args.around c.args.id in
-    let added = c.add_piece-added in
+    let added = c.push_block_line-added in
     rw (← c.self.view_is)
-    (piece_settled text (record { outgoing = g.K.Sink.outgoing c.self.inside.sink; held = c.self.inside.held }) added.new.held added.result c.settled.result c.settled.new.self (added.ensures.added (string_bytes c.self.inside.piece) text c.self.invariant c.push_block_line-pushed.ensures) c.settled.ensures.ok c.settled.ensures.err)
+    (piece_settled text (record { outgoing = g.K.Sink.outgoing c.self.inside.sink; held = c.self.inside.held }) added.new.self added.result c.settled.result c.settled.new.self added.ensures c.settled.ensures.ok c.settled.ensures.err)

@@ -1,12 +1,12 @@
-use Rattle.std.proofs.Common.{List, string_bytes, ℕ, ◌-◌}
-use Rattle.bit_grammar.specs.EventTexts.{line_at}
+use Rattle.std.proofs.Common.{List, ℕ}
 use Rattle.std.specs.Prelude.{codes}
+use Rattle.bit_grammar.specs.EventTexts.{line_at}
 use Rattle.bit_scan.proofs.Prints.{piece_settled}
 use Rattle.bit_scan.proofs.printer.Printer.end_line.Goals as goal
 
 pub returns : goal.returns
 returns g c =
-    let text : List ℕ = line_at c.args.after (c.args.around - 1) (codes "end") in
-    let added = c.add_piece-added in
+    let text : List ℕ = line_at c.args.after c.args.around (codes "end") in
+    let added = c.push_end_line-added in
     rw (← c.self.view_is)
-    (piece_settled text (record { outgoing = g.K.Sink.outgoing c.self.inside.sink; held = c.self.inside.held }) added.new.held added.result c.settled.result c.settled.new.self (added.ensures.added (string_bytes c.self.inside.piece) text c.self.invariant c.push_end_line-pushed.ensures) c.settled.ensures.ok c.settled.ensures.err)
+    (piece_settled text (record { outgoing = g.K.Sink.outgoing c.self.inside.sink; held = c.self.inside.held }) added.new.self added.result c.settled.result c.settled.new.self added.ensures c.settled.ensures.ok c.settled.ensures.err)
