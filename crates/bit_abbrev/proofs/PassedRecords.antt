@@ -1,5 +1,5 @@
 -- What passing over a record says of reading it.
-use Rattle.std.proofs.Common.{◌≡◌, ℕ, zero, suc, ◌+◌, ◌*◌, ◌-◌, ◌^◌, ◌<◌, ◌≤◌, Bool, List, [], ◌∷◌, ◌++◌, length, take, drop, Result, Ok, refl, sym, ap, ◌∙◌, subst, arith}
+use Rattle.std.proofs.Common.{◌≡◌, ℕ, zero, suc, ◌+◌, ◌*◌, ◌-◌, ◌^◌, ◌<◌, ◌≤◌, Bool, true, List, [], ◌∷◌, ◌++◌, length, take, drop, Result, Ok, refl, sym, ap, ◌∙◌, subst, arith}
 use Rattle.std.specs.List.{AllByRecursion}
 use Rattle.std.proofs.Math.Nat.{mul-le-mul}
 use Rattle.std.proofs.lemmas.Bool.{le-leb}
@@ -7,6 +7,8 @@ use Rattle.std.proofs.lemmas.List.{length-append, length-drop}
 use Rattle.bit_grammar.specs.declared.op.Op.{Op}
 use Rattle.bit_grammar.specs.declared.op.Op.TheVariants.{Literal, Fixed, Vbr, Array, Char6, Blob}
 use Rattle.bit_grammar.specs.Bits.{number}
+use Rattle.bit_grammar.specs.Blocks.{by_definition}
+use Rattle.bit_grammar.specs.Definition.{has_shape}
 use Rattle.bit_grammar.specs.Grammar.{Fault, repeat}
 use Rattle.bit_grammar.specs.Fields.{vbr, chunks}
 use Rattle.bit_grammar.specs.Record.{scalar, singles, value_count, values_of, abbreviated, unabbreviated}
@@ -202,6 +204,13 @@ array_passed first room code some count more len ops others tail a ops_are many 
       omega (arith, values_within others a len h, array.0, length-drop len a.bits),
       (s.values ++ array.3, omega (arith, length-append {A = ℕ} s.values array.3, s.count, many, array.4), subst (λ (x : List Op). Reads (abbreviated first room x) a (record { code = code; values = s.values ++ array.3 }) (beyond a (len + more))) (sym ops_are) (record_read first room code (others ++ tail) (s.values ++ array.3) a (beyond a (len + more)) within all)),
     )
+
+-- a record by operands that are in a lawful order
+pub shaped : (first room : ℕ) (ops : List Op) (code count len : ℕ) (a : BufferedBits) → has_shape ops ≡ true
+    → (len ≤ length a.bits) × ((values : List ℕ) × (length values ≡ count) × Reads (abbreviated first room ops) a (record { code = code; values = values }) (beyond a len))
+    → (len ≤ length a.bits) × ((values : List ℕ) × (length values ≡ count) × Reads (by_definition first room ops) a (record { code = code; values = values }) (beyond a len))
+unfolding by_definition
+shaped first room ops code count len a shape h = (let seen = h.1.2 in (h.0, (h.1.0, h.1.1, rw (shape, seen) refl)))
 
 -- ---- numbers that were read before others
 

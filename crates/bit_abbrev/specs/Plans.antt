@@ -1,7 +1,8 @@
 -- How a record is passed over: bits to skip, and numbers of which only the ends are found.
-use Rattle.std.specs.Prelude.{◌≡◌, ◌≢◌, ℕ, ◌+◌, ◌≤◌, List, [], ◌∷◌, ◌++◌, length, take, Some, slice_get}
+use Rattle.std.specs.Prelude.{◌≡◌, ◌≢◌, ℕ, ◌+◌, ◌≤◌, true, List, [], ◌∷◌, ◌++◌, length, take, Some, slice_get}
 use Rattle.bit_grammar.specs.declared.op.Op.{Op}
 use Rattle.bit_grammar.specs.declared.op.Op.TheVariants.{Literal, Fixed, Vbr, Array, Char6, Blob}
+use Rattle.bit_grammar.specs.Definition.{has_shape}
 use Rattle.bit_grammar.specs.Grammar.{Grammar}
 use Rattle.bit_grammar.specs.Record.{scalar, values_of}
 use Rattle.bit_grammar.specs.Terms.{CodeAndValues}
@@ -61,6 +62,7 @@ pub record PlanOf (ops : List Op) (plan : Plan) : Type 0 where
   pub others : List Op
   pub tail : List Op
   pub all : ops ≡ Literal plan.code ∷ (others ++ tail)
+  pub shape : has_shape ops ≡ true
   pub count : length others ≡ plan.singles
   pub covers : Covers others plan.passes
   pub rest : HasRest plan plan.rest tail

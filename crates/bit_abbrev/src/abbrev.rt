@@ -88,7 +88,7 @@ fn kind_of(op: Op) -> Kind
 }
 
 /// Whether operands are in a lawful order.
-fn has_shape(ops: &[Op]) -> bool
+pub(crate) fn has_shape(ops: &[Op]) -> bool
     ensures { result ≡ has_shape ops.now }
 {
     let mut place = Place::First;

@@ -13,3 +13,4 @@ pub mod SliceEvents
 pub mod Standing
 pub mod Firsts
 pub mod Named
+pub mod Passing

@@ -5,8 +5,9 @@ ghost use Rattle.bit_events.specs.Reading.{ReadsWhole};
 
 use crate::folding::fold;
 use crate::gatherer::Gatherer;
-use bit_abbrev::Abbrev;
-use bit_fields::{Fault, KeptSource, Limits, Source, ValueCount};
+use crate::passing::{PassedRun, Uncounted, pass_records};
+use bit_abbrev::{Abbrev, Plan};
+use bit_fields::{Fault, KeptSource, Limits, PlacedBits, Source, ValueCount};
 use std::alloc::{AllocError, Global};
 
 /// A gatherer that keeps nothing.
@@ -48,6 +49,17 @@ impl Gatherer for Nothing {
     #[inline(always)]
     fn counts(&self) -> bool {
         true
+    }
+
+    #[inline(always)]
+    fn pass(
+        &mut self,
+        bits: PlacedBits<'_>,
+        width: u32,
+        plans: &[Plan],
+        room: u64,
+    ) -> Result<PassedRun, AllocError> {
+        pass_records(bits, width, plans, room, &mut Uncounted)
     }
 
     #[inline]

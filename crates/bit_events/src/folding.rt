@@ -17,7 +17,7 @@ mod asking_tests;
 
 use crate::gatherer::Gatherer;
 use crate::machine::{Machine, Step};
-use crate::running::{count_records, gather_records};
+use crate::running::{count_records, gather_records, loaded_at};
 use crate::with_first::WithFirst;
 use bit_fields::{
     BitReader, Buffered, BufferedParts, Fault, FieldWidth, Head, Limits, PlacedBits, Source,
@@ -103,7 +103,9 @@ fn gather_innermost<G: Gatherer>(
     }
     let used = &mut machine.used;
     if gatherer.counts() {
-        return count_records(parts, first, frame, limits, used, gatherer, values);
+        return count_records(
+            parts, first, loaded, frame, limits, used, gatherer, values,
+        );
     }
     let mut buffered = Buffered::new(parts);
     buffered.skip(first - parts.position());
@@ -114,19 +116,6 @@ fn gather_innermost<G: Gatherer>(
 /// How many bits must be buffered for the beginning or the end of a block to be read from the buffer: more than 64 after the longest
 /// beginning, which has fields of 32, 8, 4, 31 and 32 bits.
 const MARGIN: u64 = 192;
-
-/// The bit up to which a reader has loaded bytes once it has caught up to `first`, if these were those up to `loaded` before. It
-/// passes whole bytes over, and asks for eight from the byte on in which `first` lies; there may be fewer.
-#[inline(always)]
-fn loaded_at(first: u64, loaded: u64) -> u64 {
-    if first <= loaded {
-        return loaded;
-    }
-    if first % 8 == 0 {
-        return first;
-    }
-    (first & !7).wrapping_add(64)
-}
 
 /// Gathers buffered records, and beginnings and ends of blocks, as long as they are complete, and returns the bit after the last
 /// one. Readers of all sources share it.

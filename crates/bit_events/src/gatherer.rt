@@ -1,10 +1,12 @@
-ghost use Rattle.std.specs.Prelude.{ℕ, List, [], Some, None, OnOk, OnErr, IfOk};
+ghost use Rattle.std.specs.Prelude.{◌≤◌, ℕ, List, [], Some, None, OnOk, OnErr, IfOk};
 ghost use Rattle.bit_grammar.specs.Machine.{enters, defines, notes, leaves};
+ghost use Rattle.bit_fields.specs.PlacedView.{placed};
 ghost use Rattle.bit_events.specs.Gathering.{Gathers};
 ghost use Rattle.bit_events.specs.MachineView.{TookSome};
+ghost use Rattle.bit_events.specs.Passing.{PassesRun};
 ghost use Rattle.bit_events.specs.Runs.{GathersPlain};
 
-use crate::passing::{PassedRun, Uncounted, pass_records};
+use crate::passing::PassedRun;
 use bit_abbrev::{Abbrev, Plan};
 use bit_fields::{Buffered, PlacedBits, ValueTaker};
 use std::alloc::AllocError;
@@ -101,22 +103,28 @@ pub trait Gatherer {
         Ok(None)
     }
 
-    /// Whether it needs no values of records, only how many they are.
+    /// Whether it needs no values of records, only how many they are. `pass` is then called.
     #[inline(always)]
     fn counts(&self) -> bool {
         false
     }
 
-    /// Passes over records of the innermost block.
+    /// Gathers records of the innermost block of which only the number of values is wanted, and which come first in these bits: as many
+    /// as it likes. Their ids have this width, and the first definitions in force have these plans. They have at most `room` values.
     #[inline(always)]
     fn pass(
         &mut self,
         bits: PlacedBits<'_>,
         width: u32,
-        plans: &[Plan],
+        _plans: &[Plan],
         room: u64,
-    ) -> Result<PassedRun, AllocError> {
-        pass_records(bits, width, plans, room, &mut Uncounted)
+    ) -> Result<PassedRun, AllocError>
+        requires { width ≤ 32 }
+        ensures gathers { IfOk result (λ run. PassesRun gathered width _plans.now room
+            (placed bits.entry) self.old run self.new) }
+        ensures fails { OnErr result (fails self.old None self.new) }
+    {
+        Ok(PassedRun::none(bits, room))
     }
 
     /// Takes the end of the innermost block: the bit after it.

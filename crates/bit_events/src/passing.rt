@@ -1,15 +1,36 @@
 //! Records that are passed over, since only the number of their values is wanted.
 
+ghost use Rattle.std.specs.Prelude.{◌≡◌, ◌≤◌, ℕ, List, [], IfOk, OnOk, length};
+ghost use Rattle.bit_grammar.specs.Marks.{RecordMark};
+ghost use Rattle.bit_fields.specs.PlacedView.{placed};
+ghost use Rattle.bit_events.specs.Passing.{CountsOne, PassesRecords, mark_of};
+
 use bit_abbrev::{MARGIN, Passed, Plan, pass_plain};
 use bit_fields::PlacedBits;
 use std::alloc::AllocError;
 
-/// Records that were passed over: the bit after them, how much room is left, and whether an item comes there that is no record.
+/// Records that were passed over: the bit after them, how many values may still come, and whether an item comes there that is no
+/// record.
 #[derive(Clone, Copy)]
 pub struct PassedRun {
     pub after: u64,
     pub room: u64,
     pub is_over: bool,
+}
+
+impl PassedRun {
+    /// No record.
+    #[inline(always)]
+    pub fn none(bits: PlacedBits<'_>, room: u64) -> PassedRun
+        ensures { (width : ℕ) (plans : List Plan)
+            → PassesRecords width plans room (placed bits.entry) [] result }
+    {
+        PassedRun {
+            after: bits.position(),
+            room,
+            is_over: false,
+        }
+    }
 }
 
 /// A record of which only the number of values is known.
@@ -24,8 +45,17 @@ pub struct CountedRecord {
 
 /// Counts records that are passed over.
 pub trait RunCounter {
+    ghost use Rattle.std.specs.Prelude.{List};
+    ghost use Rattle.bit_grammar.specs.Marks.{RecordMark};
+
+    // Whether counting these records, in order, turns the one into the other.
+    ghost counted: { Self → List RecordMark → Self → Type 0 };
+
     /// Counts a record.
-    fn count(&mut self, record: CountedRecord) -> Result<(), AllocError>;
+    fn count(&mut self, passed: CountedRecord) -> Result<(), AllocError>
+        requires { passed.first ≤ passed.after }
+        ensures { OnOk result ((list : List ℕ) → length list ≡ passed.count
+            → CountsOne counted self.old (mark_of passed list) self.new) };
 }
 
 /// Counts nothing.
@@ -33,13 +63,27 @@ pub trait RunCounter {
 pub struct Uncounted;
 
 impl RunCounter for Uncounted {
+    ghost counted = { λ _ _ _. Unit {0} };
+
     #[inline(always)]
-    fn count(&mut self, _record: CountedRecord) -> Result<(), AllocError> {
+    fn count(&mut self, _passed: CountedRecord) -> Result<(), AllocError> {
         Ok(())
     }
 }
 
-/// Passes over records with abbreviation ids of a width, as long as they are not odd and a margin of bits is there.
+/// Passes over one record after its id, which has at most `room` values. `None` passes over nothing: the record is then read.
+#[inline(always)]
+fn pass_one(bits: PlacedBits<'_>, width: u32, id: u64, plans: &[Plan], room: u64) -> Option<Passed>
+{
+    let fields = bits.load().after(width);
+    if id == 3 {
+        return pass_plain(fields);
+    }
+    plans.get((id - 4) as usize)?.pass(fields, room)
+}
+
+/// Passes over records with abbreviation ids of a width, as long as they are not odd and a margin of bits is there. They have at most
+/// `room` values.
 #[inline(never)]
 pub fn pass_records<C: RunCounter>(
     bits: PlacedBits<'_>,
@@ -47,25 +91,23 @@ pub fn pass_records<C: RunCounter>(
     plans: &[Plan],
     room: u64,
     counter: &mut C,
-) -> Result<PassedRun, AllocError> {
+) -> Result<PassedRun, AllocError>
+    requires width { width ≤ 32 }
+    requires none { C.counted counter [] counter }
+    ensures { IfOk result (λ run. (records : List RecordMark)
+        × C.counted counter.old records counter.new
+        × PassesRecords width plans.now room (placed bits.entry) records run) }
+{
     let mut bits = bits;
     let mut room = room;
     let mut is_over = false;
     while bits.has(MARGIN) {
         let id = bits.fixed(width);
-        let fields = bits.load().after(width);
-        let passed: Option<Passed> = if id > 3 {
-            match plans.get((id - 4) as usize) {
-                Some(plan) => plan.pass(fields, room),
-                None => None,
-            }
-        } else if id == 3 {
-            pass_plain(fields)
-        } else {
+        if id < 3 {
             is_over = true;
-            None
-        };
-        let Some(passed) = passed else {
+            break;
+        }
+        let Some(passed) = pass_one(bits, width, id, plans, room) else {
             break;
         };
         if passed.count > room {

@@ -1,12 +1,13 @@
 //! Records that are completely buffered, before a reader takes them.
 
-ghost use Rattle.std.specs.Prelude.{◌≡◌, ◌<◌, ◌≤◌, ◌-◌, ◌+◌, ℕ, List, [], ◌∷◌, None, IfSome, OnSome, IfOk, OnErr, length};
+ghost use Rattle.std.specs.Prelude.{◌≡◌, ◌<◌, ◌≤◌, ◌-◌, ◌+◌, false, ℕ, List, [], ◌∷◌, None, IfSome, OnSome, IfOk, OnErr, length};
 ghost use Rattle.bit_grammar.specs.Fields.{fixed};
 ghost use Rattle.bit_grammar.specs.Blocks as blocks;
 ghost use Rattle.bit_grammar.specs.Blocks.{Handed};
 ghost use Rattle.bit_grammar.specs.Machine as machine;
 ghost use Rattle.bit_grammar.specs.Machine.{step_of};
-ghost use Rattle.bit_fields.specs.Buffered.{Reads};
+ghost use Rattle.bit_fields.specs.Buffered.{Reads, beyond};
+ghost use Rattle.bit_fields.specs.BufferedParts.{bits_of_parts, AreParts};
 ghost use Rattle.bit_abbrev.specs.Values.{Gains, Has, Keeps};
 ghost use Rattle.bit_events.specs.FrameView.{frame_shown};
 ghost use Rattle.bit_events.specs.MachineView.{record_of, TookSome};
@@ -220,19 +221,29 @@ struct OddRun {
     is_over: bool,
 }
 
-/// Gathers buffered records from a bit on, one by one, until one comes that may be passed over.
+/// Gathers buffered records one by one, until one comes that may be passed over. The first is read in any case.
 #[inline(never)]
 fn gather_odd<G: Gatherer>(
-    parts: BufferedParts<'_>,
-    start: u64,
+    buffered: Buffered<'_>,
     frame: &Frame,
-    room: &mut u64,
+    limits: &Limits,
+    used: &mut u64,
     gatherer: &mut G,
     values: &mut G::Values,
-) -> Result<OddRun, AllocError> {
-    let mut buffered = Buffered::new(parts);
-    buffered.skip(start - parts.position());
-    let mut first = start;
+) -> Result<OddRun, AllocError>
+    requires took { TookSome G.Values.took values.old }
+    requires plain { frame.now.info ≡ None }
+    ensures took { TookSome G.Values.took values.new }
+    ensures gathers { IfOk result (λ run. GathersRun G.gathered limits.now frame.now used.old
+        buffered.entry gatherer.old used.new run.after gatherer.new) }
+    ensures moves { IfOk result (λ run. run.is_over ≡ false → buffered.entry.position < run.after) }
+    ensures stops { OnErr result (StopsRun G.gathered G.fails limits.now frame.now used.old
+        buffered.entry gatherer.old gatherer.new) }
+{
+    let mut buffered = buffered;
+    let mut first = buffered.position();
+    let mut spent = *used;
+    let mut room = limits.values().saturating_sub(spent);
     let mut is_first = true;
     let definitions = frame.definitions.all();
     let planned = frame.definitions.plans().len() as u32;
@@ -240,12 +251,14 @@ fn gather_odd<G: Gatherer>(
         values.truncate(0);
         let passes = !is_first && buffered.len() >= MARGIN;
         let Some(id) = record_id(&mut buffered, frame) else {
+            *used = spent;
             return Ok(OddRun {
                 after: first,
                 is_over: true,
             });
         };
         if passes && id - 3 <= planned {
+            *used = spent;
             return Ok(OddRun {
                 after: first,
                 is_over: false,
@@ -254,56 +267,89 @@ fn gather_odd<G: Gatherer>(
         let Ok(code) = read_entry::<G, Buffered<'_>, Definitions<'_>, G::Values>(
             &mut buffered,
             &definitions,
-            *room,
+            room,
             id,
             first,
             values,
         ) else {
+            *used = spent;
             return Ok(OddRun {
                 after: first,
                 is_over: true,
             });
         };
         let after = buffered.position();
-        *room = room.saturating_sub(values.count());
+        let count = values.count();
+        spent += count;
+        room = room.saturating_sub(count);
         gatherer.record(id, code, values, first, after)?;
         first = after;
         is_first = false;
     }
 }
 
+/// The bit up to which a reader has loaded bytes once it has caught up to `first`, if these were those up to `loaded` before. It
+/// passes whole bytes over, and asks for eight from the byte on in which `first` lies; there may be fewer.
+#[inline(always)]
+pub(crate) fn loaded_at(first: u64, loaded: u64) -> u64 {
+    if first <= loaded {
+        return loaded;
+    }
+    if first % 8 == 0 {
+        return first;
+    }
+    (first & !7).wrapping_add(64)
+}
+
 /// Gathers records of a block that is no BLOCKINFO block from a bit on, as long as they are completely buffered, and returns the bit
-/// after the last one. The gatherer needs only the number of their values.
+/// after the last one. The gatherer needs only the number of their values. Whether the last ones are read depends on where the window
+/// ends: so it ends at `loaded`, as that of an exact reader.
 #[inline(never)]
 pub(crate) fn count_records<G: Gatherer>(
     parts: BufferedParts<'_>,
     start: u64,
+    loaded: u64,
     frame: &Frame,
     limits: &Limits,
     used: &mut u64,
     gatherer: &mut G,
     values: &mut G::Values,
-) -> Result<u64, AllocError> {
+) -> Result<u64, AllocError>
+    requires lawful { AreParts parts }
+    requires least { (bits_of_parts parts).position ≤ start }
+    requires there { start - (bits_of_parts parts).position ≤ length (bits_of_parts parts).bits }
+    requires took { TookSome G.Values.took values.old }
+    requires plain { frame.now.info ≡ None }
+    ensures took { TookSome G.Values.took values.new }
+    ensures gathers { IfOk result (λ after. GathersRun G.gathered limits.now frame.now used.old
+        (beyond (bits_of_parts parts.entry) (start - (bits_of_parts parts.entry).position))
+        gatherer.old used.new after gatherer.new) }
+    ensures stops { OnErr result (StopsRun G.gathered G.fails limits.now frame.now used.old
+        (beyond (bits_of_parts parts.entry) (start - (bits_of_parts parts.entry).position))
+        gatherer.old gatherer.new) }
+{
     let mut first = start;
-    let before = limits.values().saturating_sub(*used);
-    let mut room = before;
+    let mut window = loaded;
     let width = u32::from(frame.head.width);
     let plans = frame.definitions.plans();
     loop {
         if let Some(bits) = PlacedBits::new(parts, first) {
+            let room = limits.values().saturating_sub(*used);
             let run = gatherer.pass(bits, width, plans, room)?;
-            room = run.room;
+            *used += room - run.room;
             first = run.after;
             if run.is_over {
-                break;
+                return Ok(first);
             }
         }
-        let run = gather_odd(parts, first, frame, &mut room, gatherer, values)?;
+        window = loaded_at(first, window);
+        let mut buffered = Buffered::new(parts);
+        buffered.skip(first - parts.position());
+        buffered.divide(parts, window);
+        let run = gather_odd(buffered, frame, limits, used, gatherer, values)?;
         first = run.after;
         if run.is_over {
-            break;
+            return Ok(first);
         }
     }
-    *used += before - room;
-    Ok(first)
 }

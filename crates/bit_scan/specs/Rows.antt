@@ -1,7 +1,8 @@
 -- The view of the rows of an analysis.
-use Rattle.std.specs.Prelude.{◌≡◌, ℕ, List, map, Result, OnOk}
+use Rattle.std.specs.Prelude.{◌≡◌, ℕ, List, [], ◌∷◌, map, Result, OnOk}
+use Rattle.bit_grammar.specs.Marks.{RecordMark}
 use Rattle.bit_grammar.specs.Tally.{BlockTally}
-use Rattle.bit_grammar.specs.Counting.{with_row}
+use Rattle.bit_grammar.specs.Counting.{one_record, with_row}
 use Rattle.bit_scan.specs.Additions.{with_added}
 use Rattle.bit_scan.specs.CodesView.{code_tallies}
 use Rattle.bit_scan.specs.Cut.{cut_rows}
@@ -30,3 +31,18 @@ abbrev pub AddsToRow : {T E : Type 0} → Addition → (id : ℕ) → List (ℕ 
 AddsToRow addition id old result new = (tallies : List BlockTally)
     → block_tallies old ≡ cut_rows tallies → OnOk result
     (block_tallies new ≡ cut_rows (with_row (with_added addition) id tallies))
+
+-- a row with these records more
+abbrev pub with_records : List RecordMark → BlockTally → BlockTally
+with_records [] tally = tally
+with_records (mark ∷ records) tally = with_records records (one_record mark tally)
+
+-- a row that shows a tally shows it with these records more
+abbrev pub CountsInRow : BlockRow → List RecordMark → BlockRow → Type 0
+CountsInRow old records new = (id : ℕ) (tally : BlockTally) → block_tally (id, old) ≡ cut_row tally
+    → block_tally (id, new) ≡ cut_row (with_records records tally)
+
+-- the rows after these records of a block with this id
+abbrev pub rows_after : List RecordMark → (id : ℕ) → List BlockTally → List BlockTally
+rows_after [] id tallies = tallies
+rows_after (mark ∷ records) id tallies = rows_after records id (with_row (one_record mark) id tallies)

@@ -172,14 +172,12 @@ impl Gatherer for Counter {
         plans: &[Plan],
         room: u64,
     ) -> Result<PassedRun, AllocError> {
-        let Some(block) = self.open.last() else {
-            return Ok(PassedRun {
-                after: bits.position(),
-                room,
-                is_over: false,
-            });
-        };
-        self.rows.pass(block.place, bits, width, plans, room)
+        match self.open.last() {
+            Some(block) => self
+                .rows
+                .pass(block.id, block.place, bits, width, plans, room),
+            None => Ok(PassedRun::none(bits, room)),
+        }
     }
 
     fn leave(&mut self, after: u64) -> Result<(), AllocError> {

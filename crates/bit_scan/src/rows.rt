@@ -1,4 +1,4 @@
-ghost use Rattle.std.specs.Prelude.{◌≡◌, ◌<◌, ◌++◌, ◌∷◌, ℕ, map, length, slice_get, List, [], Some, OnOk};
+ghost use Rattle.std.specs.Prelude.{◌≡◌, ◌<◌, ◌≤◌, ◌++◌, ◌∷◌, ℕ, map, length, slice_get, List, [], Some, OnOk, IfOk};
 ghost use Rattle.std.specs.Map.{keys_of};
 ghost use Rattle.bit_scan.specs.Indexed.{AreDistinct, IsFree, IsIndexed};
 ghost use Rattle.bit_grammar.specs.Tally.{CodeTally, BlockTally};
@@ -6,7 +6,10 @@ ghost use Rattle.bit_grammar.specs.Counting.{fresh_row, with_row};
 ghost use Rattle.bit_scan.specs.Additions.{with_added};
 ghost use Rattle.bit_scan.specs.CodesView.{code_tallies, with_use, CountsUse};
 ghost use Rattle.bit_scan.specs.Cut.{cut_code, cut_row, cut_rows};
-ghost use Rattle.bit_scan.specs.Rows.{block_tally, block_tallies, AddsToRow};
+ghost use Rattle.bit_grammar.specs.Marks.{RecordMark};
+ghost use Rattle.bit_fields.specs.PlacedView.{placed};
+ghost use Rattle.bit_events.specs.Passing.{PassesRecords};
+ghost use Rattle.bit_scan.specs.Rows.{block_tally, block_tallies, rows_after, AddsToRow};
 
 use bit_abbrev::Plan;
 use bit_events::{CountedRecord, PassedRun, RunCounter, pass_records};
@@ -284,13 +287,17 @@ struct RowCounter<'a> {
 }
 
 impl<'a> RunCounter for RowCounter<'a> {
+    ghost use Rattle.bit_scan.specs.Rows.{CountsInRow};
+
+    ghost counted = { λ first records last. CountsInRow first.row.now records last.row.now };
+
     #[inline(always)]
-    fn count(&mut self, record: CountedRecord) -> Result<(), AllocError> {
+    fn count(&mut self, passed: CountedRecord) -> Result<(), AllocError> {
         let addition = Addition::Record {
-            code: record.code,
-            abbreviated: record.id >= 4,
-            values: record.count,
-            bits: record.after - record.first,
+            code: passed.code,
+            abbreviated: passed.id >= 4,
+            values: passed.count,
+            bits: passed.after - passed.first,
         };
         self.row.add(self.places, self.place, addition)
     }
@@ -423,16 +430,26 @@ impl BlockRows {
         Ok(())
     }
 
-    /// Passes over records of a block and counts them.
+    /// Passes over records of a block with an id and counts them in its row, if that is at the place.
     #[inline(always)]
     pub(crate) fn pass(
         &mut self,
+        id: u32,
         place: usize,
         bits: PlacedBits<'_>,
         width: u32,
         plans: &[Plan],
         room: u64,
-    ) -> Result<PassedRun, AllocError> {
+    ) -> Result<PassedRun, AllocError>
+        requires { width ≤ 32 }
+        ensures { IfOk result (λ run. (records : List RecordMark)
+            × PassesRecords width plans.now room (placed bits.entry) records run
+            × ((tallies : List BlockTally) → block_tallies self.old ≡ cut_rows tallies
+            → block_tallies self.new ≡ cut_rows (rows_after records id tallies))) }
+    {
+        if !is_at(&self.rows, place, u64::from(id)) {
+            return Ok(PassedRun::none(bits, room));
+        }
         let (_, row) = &mut self.rows[place];
         let mut counter = RowCounter {
             row,

@@ -6,6 +6,7 @@ ghost use Rattle.bit_grammar.specs.FormatDefinition.{HasLawfulValue};
 ghost use Rattle.bit_abbrev.specs.declared.plan.Rest.TheVariants.{Odd};
 ghost use Rattle.bit_abbrev.specs.Plans.{Covers, HasRest, IsPlan};
 
+use crate::abbrev::has_shape;
 use crate::plan::{Passes, Plan, Rest};
 use bit_fields::{ChunkTops, ChunkWidth};
 use bit_grammar::Op;
@@ -86,6 +87,9 @@ impl Plan {
         let [first, others @ ..] = ops else {
             return odd();
         };
+        if !has_shape(ops) {
+            return odd();
+        }
         let Op::Literal(code) = *first else {
             return odd();
         };

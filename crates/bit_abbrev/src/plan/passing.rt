@@ -3,7 +3,8 @@
 ghost use Rattle.std.specs.Prelude.{◌≡◌, ◌≢◌, ◌⊎◌, ◌+◌, ◌-◌, ◌^◌, ◌<◌, ◌≤◌, ℕ, List, length, take, IfSome};
 ghost use Rattle.bit_grammar.specs.declared.op.Op.{Op};
 ghost use Rattle.bit_grammar.specs.Fields.{vbr};
-ghost use Rattle.bit_grammar.specs.Record.{abbreviated, unabbreviated};
+ghost use Rattle.bit_grammar.specs.Blocks.{by_definition};
+ghost use Rattle.bit_grammar.specs.Record.{unabbreviated};
 ghost use Rattle.bit_fields.specs.Buffered.{Reads, beyond};
 ghost use Rattle.bit_fields.specs.Placed.{HasNumbers};
 ghost use Rattle.bit_fields.specs.PlacedView.{loaded, placed};
@@ -134,7 +135,7 @@ impl Plan {
     pub fn pass(&self, fields: LoadedBits<'_>, room: u64) -> Option<Passed>
         requires { 2208 ≤ length (loaded fields).bits }
         ensures { IfSome result (λ passed. (first : ℕ) (ops : List Op) → IsPlan ops self.now
-            → passed.count ≤ room → PassesOver (abbreviated first room ops) (loaded fields.entry)
+            → passed.count ≤ room → PassesOver (by_definition first room ops) (loaded fields.entry)
             passed) }
     {
         if self.rest == Rest::Odd {

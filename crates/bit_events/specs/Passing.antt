@@ -1,0 +1,47 @@
+-- Records that are passed over, since only the number of their values is wanted.
+use Rattle.std.specs.Prelude.{◌≡◌, ℕ, ◌+◌, ◌-◌, ◌<◌, ◌≤◌, List, [], ◌∷◌, ◌++◌, None, map}
+use Rattle.bit_grammar.specs.Blocks.{Limits}
+use Rattle.bit_grammar.specs.Machine.{Event, notes}
+use Rattle.bit_grammar.specs.Marks.{RecordMark}
+use Rattle.bit_fields.specs.Buffered.{BufferedBits}
+use Rattle.bit_abbrev.specs.declared.plan.Plan.{Plan}
+use Rattle.bit_abbrev.specs.Plans.{ArePlans}
+use Rattle.bit_events.specs.declared.frame.Frame.{Frame}
+use Rattle.bit_events.specs.declared.passing.CountedRecord.{CountedRecord}
+use Rattle.bit_events.specs.declared.passing.PassedRun.{PassedRun}
+use Rattle.bit_events.specs.Gathering.{left_open}
+use Rattle.bit_events.specs.Runs.{GathersRun}
+
+-- the record that was counted, with these values
+abbrev pub mark_of : CountedRecord → List ℕ → RecordMark
+mark_of r list = record { abbreviation = r.id; code = r.code; values = list; first = r.first; after = r.after }
+
+-- after counting some records, one more was counted
+abbrev pub CountsOne : {C : Type 0} → (C → List RecordMark → C → Type 0) → C → RecordMark → C → Type 0
+CountsOne {C} counted old mark new = (first : C) (done : List RecordMark) → counted first done old
+    → counted first (done ++ mark ∷ []) new
+
+-- events were added to a list of them
+abbrev pub collected : List Event → List Event → List Event → Type 0
+collected first done last = done ≡ first ++ last
+
+-- These records come first in the buffered bits, in a block with ids of this width whose first definitions have these plans, and
+-- have at most `room` values.
+pub record PassesRecords (width : ℕ) (plans : List Plan) (room : ℕ) (a : BufferedBits)
+    (records : List RecordMark) (run : PassedRun) : Type 0 where
+  pub less : run.room ≤ room
+  pub passes : (limits : Limits) (f : Frame) (used : ℕ) → f.head.width ≡ width → f.info ≡ None
+      → ArePlans f.definitions plans → limits.values - used ≡ room
+      → GathersRun collected limits f used a [] (used + (room - run.room)) run.after
+      (map notes records)
+
+-- After gathering some events that leave a block open, these records were gathered.
+abbrev pub GathersRecords : {G : Type 0} → (G → List Event → G → Type 0) → G → List RecordMark → G → Type 0
+GathersRecords {G} gathered old records new = (first : G) (done : List Event) → gathered first done old
+    → 0 < left_open done → gathered first (done ++ map notes records) new
+
+-- the records that come first in the buffered bits were gathered
+abbrev pub PassesRun : {G : Type 0} → (G → List Event → G → Type 0) → (width : ℕ) → List Plan
+    → (room : ℕ) → BufferedBits → G → PassedRun → G → Type 0
+PassesRun gathered width plans room a old run new = (records : List RecordMark)
+    × PassesRecords width plans room a records run × GathersRecords gathered old records new
