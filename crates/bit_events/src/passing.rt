@@ -1,8 +1,12 @@
 //! Records that are passed over, since only the number of their values is wanted.
 
-ghost use Rattle.std.specs.Prelude.{◌≡◌, ◌≤◌, ℕ, List, [], IfOk, OnOk, length};
+ghost use Rattle.std.specs.Prelude.{◌≡◌, ◌≤◌, ℕ, List, [], IfSome, IfOk, OnOk, length};
+ghost use Rattle.bit_grammar.specs.declared.op.Op.{Op};
+ghost use Rattle.bit_grammar.specs.Blocks.{entry};
 ghost use Rattle.bit_grammar.specs.Marks.{RecordMark};
+ghost use Rattle.bit_fields.specs.Buffered.{beyond};
 ghost use Rattle.bit_fields.specs.PlacedView.{placed};
+ghost use Rattle.bit_abbrev.specs.Plans.{ArePlans, PassesOver};
 ghost use Rattle.bit_events.specs.Passing.{CountsOne, PassesRecords, mark_of};
 
 use bit_abbrev::{MARGIN, Passed, Plan, pass_plain};
@@ -71,9 +75,15 @@ impl RunCounter for Uncounted {
     }
 }
 
-/// Passes over one record after its id, which has at most `room` values. `None` passes over nothing: the record is then read.
+/// Passes over one record after its id, which has this width. `None` passes over nothing: the record is then read.
 #[inline(always)]
 fn pass_one(bits: PlacedBits<'_>, width: u32, id: u64, plans: &[Plan], room: u64) -> Option<Passed>
+    requires width { width ≤ 32 }
+    requires id { 3 ≤ id }
+    requires there { 2240 ≤ length (placed bits).bits }
+    ensures { IfSome result (λ passed. (first : ℕ) (definitions : List (List Op))
+        → ArePlans definitions plans.now → passed.count ≤ room
+        → PassesOver (entry room first id definitions) (beyond (placed bits.entry) width) passed) }
 {
     let fields = bits.load().after(width);
     if id == 3 {
@@ -93,7 +103,7 @@ pub fn pass_records<C: RunCounter>(
     counter: &mut C,
 ) -> Result<PassedRun, AllocError>
     requires width { width ≤ 32 }
-    requires none { C.counted counter [] counter }
+    requires none { C.counted counter.old [] counter.old }
     ensures { IfOk result (λ run. (records : List RecordMark)
         × C.counted counter.old records counter.new
         × PassesRecords width plans.now room (placed bits.entry) records run) }
