@@ -1,6 +1,6 @@
 //! The plans of the first definitions for some block ids.
 
-ghost use Rattle.std.specs.Prelude.{◌≡◌, ◌<◌, ◌≤◌, [], Some, length, slice_get, IfSome, OnOk, OnErr};
+ghost use Rattle.std.specs.Prelude.{◌≡◌, ◌<◌, [], ◌∷◌, Some, length, slice_get, IfSome};
 ghost use Rattle.std.specs.List.{AllByRecursion};
 ghost use Rattle.bit_grammar.specs.FormatDefinition.{HasLawfulValue};
 ghost use Rattle.bit_grammar.specs.Terms.{Table, defined_at};
@@ -22,22 +22,50 @@ pub(crate) struct PlanGroup {
 #[derive(Drop)]
 pub(crate) struct PlanGroups {
     groups: Vec<PlanGroup>,
-    /// How many plans there are.
-    planned: usize,
-    ghost most: { planned ≤ 64 },
+    /// How many plans may still be made.
+    left: usize,
 }
 
-/// How many plans there are at most.
+/// How many plans a table has at most.
 const MOST_PLANS: usize = 64;
 
+/// In how many bits of input a table may have one plan more than none, behind the first table.
+const BITS_FOR_A_PLAN: u64 = 1 << 14;
+
+/// For which tables plans are made. To make one takes longer than to read a definition, and is lost if no record uses it.
+#[derive(Clone, Copy, Debug)]
+pub enum Planning {
+    /// For none: no record is passed over.
+    Never,
+    /// For all, and none was begun.
+    First,
+    /// For all, as many as the bits allow that came since the last one was begun, at this bit.
+    Since(u64),
+}
+
+impl Planning {
+    /// How many plans a table may have that is begun at a bit.
+    pub fn at(&mut self, bit: u64) -> usize {
+        let most = match *self {
+            Planning::Never => return 0,
+            Planning::First => MOST_PLANS,
+            Planning::Since(last) => {
+                (bit.saturating_sub(last) / BITS_FOR_A_PLAN).min(MOST_PLANS as u64) as usize
+            }
+        };
+        *self = Planning::Since(bit);
+        most
+    }
+}
+
 impl PlanGroups {
-    /// No plans.
-    pub(crate) fn new(alloc: Global) -> PlanGroups
+    /// No plans, and at most so many later.
+    pub(crate) fn new(alloc: Global, most: usize) -> PlanGroups
         ensures { result.groups.items ≡ [] }
     {
         PlanGroups {
             groups: Vec::new(alloc),
-            planned: 0,
+            left: most,
         }
     }
 
@@ -67,41 +95,49 @@ impl PlanGroups {
         }
     }
 
-    /// Makes the plan of the next definition for a block id, which has `before` definitions. If an allocation fails, there is none.
-    pub(crate) fn add(
-        &mut self,
-        alloc: Global,
-        id: u32,
-        before: usize,
-        ops: &[Op],
-    ) -> Result<(), AllocError>
-        requires { AllByRecursion HasLawfulValue ops.now }
-        ensures ok { OnOk result ((definitions : Table)
-            → HavePlans definitions self.old.groups.items → length (definitions id) ≡ before
-            → HavePlans (defined_at id ops.now definitions) self.new.groups.items) }
-        ensures err { OnErr result ((definitions : Table)
-            → HavePlans definitions self.old.groups.items
-            → HavePlans definitions self.new.groups.items) }
+    /// Begins a group with a plan. If there is no memory for it, there is none.
+    fn begin(&mut self, alloc: Global, id: u32, plan: Plan)
+        ensures { (definitions : Table) → HavePlans definitions self.old.groups.items
+            → AreFirst (definitions id) (plan ∷ [])
+            → HavePlans definitions self.new.groups.items }
     {
-        if self.planned == MOST_PLANS {
-            return Ok(());
+        let Ok(mut plans) = Vec::with_capacity(alloc, 1) else {
+            return;
+        };
+        let Ok(()) = plans.push(plan) else {
+            return;
+        };
+        let Ok(()) = self.groups.push(PlanGroup { id, plans }) else {
+            return;
+        };
+        self.left = self.left.saturating_sub(1);
+    }
+
+    /// Makes the plan of the next definition for a block id, which has `before` definitions, if it may. If there is no memory for it,
+    /// there is none.
+    pub(crate) fn add(&mut self, alloc: Global, id: u32, before: usize, ops: &[Op])
+        requires { AllByRecursion HasLawfulValue ops.now }
+        ensures { (definitions : Table) → HavePlans definitions self.old.groups.items
+            → length (definitions id) ≡ before
+            → HavePlans (defined_at id ops.now definitions) self.new.groups.items }
+    {
+        if self.left == 0 {
+            return;
         }
         if before == 0 {
-            let mut plans = Vec::with_capacity(alloc, 1)?;
-            plans.push(Plan::of(ops))?;
-            self.groups.push(PlanGroup { id, plans })?;
-            self.planned += 1;
-            return Ok(());
+            self.begin(alloc, id, Plan::of(ops));
+            return;
         }
         let Some(place) = self.place_of(id) else {
-            return Ok(());
+            return;
         };
         if self.groups[place].plans.len() != before {
-            return Ok(());
+            return;
         }
-        self.groups[place].plans.push(Plan::of(ops))?;
-        self.planned += 1;
-        Ok(())
+        let Ok(()) = self.groups[place].plans.push(Plan::of(ops)) else {
+            return;
+        };
+        self.left = self.left.saturating_sub(1);
     }
 
     /// Drops all plans.

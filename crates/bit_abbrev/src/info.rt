@@ -60,14 +60,21 @@ fn add(
 }
 
 impl InfoTable {
-    /// A table without definitions.
+    /// A table without definitions, which makes no plans of later ones.
     pub fn new(alloc: Global) -> InfoTable
+        ensures { (id : ℕ) → definitions_at result id ≡ no_definitions id }
+    {
+        InfoTable::with_plans(alloc, 0)
+    }
+
+    /// A table without definitions, which makes plans of later ones, at most so many.
+    pub fn with_plans(alloc: Global, most: usize) -> InfoTable
         ensures { (id : ℕ) → definitions_at result id ≡ no_definitions id }
     {
         InfoTable {
             alloc,
             lists: BTreeMap::new(alloc),
-            groups: PlanGroups::new(alloc),
+            groups: PlanGroups::new(alloc, most),
         }
     }
 
@@ -102,7 +109,7 @@ impl InfoTable {
         ensures err { OnErr result (self.new ≡ self.old) }
     {
         let before = self.for_block(id).len();
-        self.groups.add(self.alloc, id, before, abbrev.ops())?;
+        self.groups.add(self.alloc, id, before, abbrev.ops());
         match add(&mut self.lists, self.alloc, id, abbrev) {
             Ok(()) => Ok(()),
             Err(error) => {

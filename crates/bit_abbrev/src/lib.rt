@@ -34,6 +34,7 @@ pub use abbrev::{Abbrev, BadAbbrev, Ops};
 pub use bit_grammar::Op;
 pub use bits::{Bits, NotBuffered};
 pub use definition::read_define;
+pub use groups::Planning;
 pub use in_force::{Definitions, InForce, Lookup, SharedInfo};
 pub use info::InfoTable;
 pub use laws::lawful_unbroken;

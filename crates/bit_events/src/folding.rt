@@ -19,6 +19,7 @@ use crate::gatherer::Gatherer;
 use crate::machine::{Machine, Step};
 use crate::running::{count_records, gather_records, loaded_at};
 use crate::with_first::WithFirst;
+use bit_abbrev::Planning;
 use bit_fields::{
     BitReader, Buffered, BufferedParts, Fault, FieldWidth, Head, Limits, PlacedBits, Source,
 };
@@ -293,7 +294,12 @@ pub fn fold<S: Source, G: Gatherer + Drop>(
     };
     let mut reader = reader;
     let mut gatherer = gatherer;
-    let mut machine = Machine::new(alloc);
+    let planning = if gatherer.counts() {
+        Planning::First
+    } else {
+        Planning::Never
+    };
+    let mut machine = Machine::new(alloc, planning);
     let done = gather_rest(alloc, &mut reader, &mut machine, &limits, &mut gatherer);
     let after = reader.position();
     let source = reader.into_source();

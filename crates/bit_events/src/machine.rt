@@ -22,7 +22,7 @@ use crate::heads::{
 };
 use crate::running::{buffered_item, buffered_record};
 use crate::with_first::WithFirst;
-use bit_abbrev::{Abbrev, InForce, InfoTable, SharedInfo};
+use bit_abbrev::{Abbrev, InForce, InfoTable, Planning, SharedInfo};
 use bit_fields::{
     BitReader, Buffered, Fault, FieldWidth, Limits, PlacedBits, Reason, Source, ValueTaker,
 };
@@ -57,16 +57,17 @@ pub(crate) struct Machine {
     pub(crate) frames: Vec<Frame>,
     pub(crate) table: SharedInfo,
     pub(crate) used: u64,
+    pub(crate) planning: Planning,
 }
 
-/// What a block with this id describes at its beginning, if it is a BLOCKINFO block.
-fn info_for(alloc: Global, id: u32) -> Option<Describing>
+/// What a block with this id describes at its beginning, if it is a BLOCKINFO block. Its body begins at a bit.
+fn info_for(alloc: Global, id: u32, planning: &mut Planning, body: u64) -> Option<Describing>
     ensures { info_shown result ≡ info_for id }
 {
     if id == 0 {
         Some(Describing {
             described: None,
-            made: InfoTable::new(alloc),
+            made: InfoTable::with_plans(alloc, planning.at(body)),
         })
     } else {
         None
@@ -90,7 +91,7 @@ impl Step {
 
 impl Machine {
     /// No block is open, and nothing was read.
-    pub(crate) fn new(alloc: Global) -> Machine
+    pub(crate) fn new(alloc: Global, planning: Planning) -> Machine
         ensures machine { machine_shown result ≡ at_start }
         ensures none { vec_len result.frames ≡ 0 }
     {
@@ -98,6 +99,7 @@ impl Machine {
             frames: Vec::new(alloc),
             table: SharedInfo::new(),
             used: 0,
+            planning,
         }
     }
 
@@ -110,7 +112,7 @@ impl Machine {
         ensures fewer { OnErr result (vec_len self.new.frames ≤ vec_len self.old.frames) }
     {
         let definitions = self.table.enter(alloc, head.id)?;
-        let info = info_for(alloc, head.id);
+        let info = info_for(alloc, head.id, &mut self.planning, head.body);
         self.frames.push(Frame {
             head,
             definitions,

@@ -16,6 +16,7 @@ use crate::event::RecordHead;
 use crate::finder::PackedEvent;
 use crate::machine::{Machine, Step};
 use crate::with_first::WithFirst;
+use bit_abbrev::Planning;
 use bit_fields::{
     BitReader, Buffered, Fault, Head, Limits, PackedValues, SliceSource, Source, ValueTaker,
 };
@@ -96,7 +97,7 @@ impl<'a> SliceEvents<'a> {
             head,
             reader,
             buffered,
-            machine: Machine::new(alloc),
+            machine: Machine::new(alloc, Planning::Never),
             values: WithFirst::new(PackedValues::new(alloc)),
             found: None,
             over: false,

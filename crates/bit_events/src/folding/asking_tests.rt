@@ -10,7 +10,7 @@ use crate::machine::Machine;
 use crate::running::gather_records;
 use crate::with_first::WithFirst;
 use crate::{Gatherer, fold};
-use bit_abbrev::Abbrev;
+use bit_abbrev::{Abbrev, Planning};
 use bit_fields::{
     BitReader, BufSource, Buffered, Fault, FrontSource, KeptSource, Limits, SliceSource, Source,
     ValueCount, ValueTaker,
@@ -96,7 +96,7 @@ fn fold_by_records<S: Source, G: Gatherer>(
     };
     let mut folding = Folding {
         reader,
-        machine: Machine::new(alloc),
+        machine: Machine::new(alloc, Planning::Never),
         gatherer,
     };
     let done = folding.gather_by_records(alloc, &limits);
