@@ -83,15 +83,14 @@ impl PlanGroups {
         None
     }
 
-    /// The plans at a place, if they are for this block id.
-    #[inline(always)]
-    pub(crate) fn at(&self, place: usize, id: u32) -> &[Plan]
+    /// The plans for a block id, possibly none.
+    pub(crate) fn plans_for(&self, id: u32) -> &[Plan]
         ensures { (definitions : Table) → HavePlans definitions self.now.groups.items
             → AreFirst (definitions id) result.now }
     {
-        match self.groups.get(place) {
-            Some(group) if group.id == id => group.plans.as_slice(),
-            _ => &[],
+        match self.place_of(id) {
+            Some(place) => self.groups[place].plans.as_slice(),
+            None => &[],
         }
     }
 

@@ -51,22 +51,13 @@ impl SharedInfo {
     {
         let own = Vec::new(alloc);
         let Some(table) = &self.table else {
-            return Ok(InForce {
-                shared: None,
-                group: usize::MAX,
-                own,
-            });
+            return Ok(InForce { shared: None, own });
         };
         if table.for_block(id).is_empty() {
-            return Ok(InForce {
-                shared: None,
-                group: usize::MAX,
-                own,
-            });
+            return Ok(InForce { shared: None, own });
         }
         Ok(InForce {
             shared: Some((table.clone()?, id)),
-            group: table.group_of(id).unwrap_or(usize::MAX),
             own,
         })
     }
@@ -77,8 +68,6 @@ impl SharedInfo {
 pub struct InForce {
     /// The table, and the id of the block.
     shared: Option<(Rc<InfoTable>, u32)>,
-    /// The place of the plans of the table's first definitions.
-    group: usize,
     own: Vec<Abbrev>,
 }
 
@@ -163,7 +152,6 @@ impl InForce {
     {
         InForce {
             shared: None,
-            group: usize::MAX,
             own: Vec::new(alloc),
         }
     }
@@ -178,12 +166,11 @@ impl InForce {
     }
 
     /// The plans of the first definitions, possibly none.
-    #[inline]
     pub fn plans(&self) -> &[Plan]
         ensures { ArePlans self.now result.now }
     {
         match &self.shared {
-            Some((table, id)) => table.plans_at(self.group, *id),
+            Some((table, id)) => table.plans_for(*id),
             None => &[],
         }
     }

@@ -78,17 +78,11 @@ impl InfoTable {
         }
     }
 
-    /// The place of the plans for a block id, if there are any.
-    pub(crate) fn group_of(&self, id: u32) -> Option<usize> {
-        self.groups.place_of(id)
-    }
-
-    /// The plans at a place, if they are those of the first definitions for this block id.
-    #[inline(always)]
-    pub(crate) fn plans_at(&self, place: usize, id: u32) -> &[Plan]
+    /// The plans of the first definitions for a block id, possibly none.
+    pub(crate) fn plans_for(&self, id: u32) -> &[Plan]
         ensures { AreFirst (definitions_at self.now id) result.now }
     {
-        self.groups.at(place, id)
+        self.groups.plans_for(id)
     }
 
     /// The definitions for a block id, possibly none.

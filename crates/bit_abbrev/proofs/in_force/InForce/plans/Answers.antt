@@ -8,8 +8,8 @@ use Rattle.bit_abbrev.proofs.in_force.InForce.plans.Goals as goal
 
 pub returns-in-Some : goal.returns-in-Some
 returns-in-Some c =
-    let plans = c.plans_at.result.now in
+    let plans = c.plans_for.result.now in
     let definitions = definitions_at c.in-Some.table.value c.in-Some.id in
-    let first : AreFirst definitions plans = subst (λ table. AreFirst (definitions_at table c.in-Some.id) plans) c.deref.ensures c.plans_at.ensures in
+    let first : AreFirst definitions plans = subst (λ table. AreFirst (definitions_at table c.in-Some.id) plans) c.deref.ensures c.plans_for.ensures in
     let view = rw c.in-Some.is at c.self.view_is in
     subst (λ (all : List (List Op)). ArePlans all plans) view (by_index _ plans (first_still definitions c.self.inside.own.items plans first))
