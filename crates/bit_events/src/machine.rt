@@ -60,20 +60,6 @@ pub(crate) struct Machine {
     pub(crate) planning: Planning,
 }
 
-/// What a block with this id describes at its beginning, if it is a BLOCKINFO block. Its body begins at a bit.
-fn info_for(alloc: Global, id: u32, planning: &mut Planning, body: u64) -> Option<Describing>
-    ensures { info_shown result ≡ info_for id }
-{
-    if id == 0 {
-        Some(Describing {
-            described: None,
-            made: InfoTable::with_plans(alloc, planning.at(body)),
-        })
-    } else {
-        None
-    }
-}
-
 impl Step {
     /// The bit after a step at a block's beginning or end.
     #[inline(always)]
@@ -103,6 +89,52 @@ impl Machine {
         }
     }
 
+    /// Opens a block that describes another one, or none.
+    #[inline(always)]
+    fn push(
+        &mut self,
+        head: BlockHead,
+        definitions: InForce,
+        info: Option<Describing>,
+    ) -> Result<(), AllocError>
+        requires definitions { definitions ≡ definitions_at self.old.table head.id }
+        requires info { info_shown info ≡ info_for head.id }
+        ensures made { OnOk result (machine_shown self.new
+            ≡ inside (head_shown head) (frames_shown self.old.frames.items)
+            (enter head.id (handed_shown self.old))) }
+        ensures more { OnOk result (vec_len self.new.frames ≡ vec_len self.old.frames + 1) }
+        ensures fewer { OnErr result (vec_len self.new.frames ≤ vec_len self.old.frames) }
+    {
+        self.frames.push(Frame {
+            head,
+            definitions,
+            info,
+        })?;
+        Ok(())
+    }
+
+    /// Opens a BLOCKINFO block.
+    #[cold]
+    #[inline(never)]
+    fn enter_info(
+        &mut self,
+        alloc: Global,
+        head: BlockHead,
+        definitions: InForce,
+    ) -> Result<(), AllocError>
+        requires id { head.id ≡ 0 }
+        requires definitions { definitions ≡ definitions_at self.old.table head.id }
+        ensures made { OnOk result (machine_shown self.new
+            ≡ inside (head_shown head) (frames_shown self.old.frames.items)
+            (enter head.id (handed_shown self.old))) }
+        ensures more { OnOk result (vec_len self.new.frames ≡ vec_len self.old.frames + 1) }
+        ensures fewer { OnErr result (vec_len self.new.frames ≤ vec_len self.old.frames) }
+    {
+        let made = InfoTable::with_plans(alloc, self.planning.at(head.body));
+        let described = None;
+        self.push(head, definitions, Some(Describing { described, made }))
+    }
+
     /// Opens a block.
     fn enter(&mut self, alloc: Global, head: BlockHead) -> Result<(), AllocError>
         ensures made { OnOk result (machine_shown self.new
@@ -112,13 +144,10 @@ impl Machine {
         ensures fewer { OnErr result (vec_len self.new.frames ≤ vec_len self.old.frames) }
     {
         let definitions = self.table.enter(alloc, head.id)?;
-        let info = info_for(alloc, head.id, &mut self.planning, head.body);
-        self.frames.push(Frame {
-            head,
-            definitions,
-            info,
-        })?;
-        Ok(())
+        if head.id == 0 {
+            return self.enter_info(alloc, head, definitions);
+        }
+        self.push(head, definitions, None)
     }
 
     /// Reads a block's beginning, after its id, which began at `first`. Source: "ENTER_SUBBLOCK Encoding".
