@@ -246,7 +246,7 @@ fn gather_odd<G: Gatherer>(
     let mut room = limits.values().saturating_sub(spent);
     let mut is_first = true;
     let definitions = frame.definitions.all();
-    let planned = frame.definitions.plans().len() as u32;
+    let planned = frame.definitions.plans().len();
     loop {
         values.truncate(0);
         let passes = !is_first && buffered.len() >= MARGIN;
@@ -257,7 +257,7 @@ fn gather_odd<G: Gatherer>(
                 is_over: true,
             });
         };
-        if passes && id - 3 <= planned {
+        if passes && (id - 3) as usize <= planned {
             *used = spent;
             return Ok(OddRun {
                 after: first,
