@@ -19,9 +19,7 @@ use crate::gatherer::Gatherer;
 use crate::machine::{Machine, Step};
 use crate::running::{buffered_from, count_records, gather_records, loaded_at};
 use crate::with_first::WithFirst;
-use bit_fields::{
-    BitReader, BufferedParts, Fault, FieldWidth, Head, Limits, PlacedBits, Source,
-};
+use bit_fields::{BitReader, BufferedParts, Fault, FieldWidth, Head, Limits, PlacedBits, Source};
 use std::alloc::{AllocError, Global};
 
 /// The result of reading a whole input: its head, the gatherer of its events, and the bit after its stream.
@@ -103,9 +101,7 @@ fn gather_innermost<G: Gatherer>(
     }
     let used = &mut machine.used;
     if gatherer.counts() {
-        return count_records(
-            parts, first, loaded, frame, limits, used, gatherer, values,
-        );
+        return count_records(parts, first, loaded, frame, limits, used, gatherer, values);
     }
     let buffered = buffered_from(parts, first, loaded);
     gather_records(buffered, frame, limits, used, gatherer, values)
