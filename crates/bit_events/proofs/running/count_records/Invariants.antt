@@ -1,4 +1,4 @@
-use Rattle.std.proofs.Common.{◌≡◌, ◌-◌, ◌≤◌, ◌^◌, length}
+use Rattle.std.proofs.Common.{◌-◌, ◌≤◌, ◌^◌, length}
 use Rattle.bit_fields.specs.Buffered.{beyond}
 use Rattle.bit_fields.specs.BufferedParts.{bits_of_parts}
 use Rattle.bit_events.specs.MachineView.{TookSome}
