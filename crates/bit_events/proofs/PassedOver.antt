@@ -137,7 +137,7 @@ one_passed width definitions room a records left b one list c so most id_seen se
     events = map-append notes records (mark_of one list ∷ []) ∙ ap (λ (e : Event). map notes records ++ e ∷ []) event_is
 
 -- what a counter counted was gathered
-pub counted_gathered : {C G : Type 0} (counted : C → List RecordMark → C → Type 0) (gathered : G → List Event → G → Type 0) (width : ℕ) (plans : List Plan) (room : ℕ) (a : BufferedBits) (old new : C) (g h : G) (result : Result PassedRun AllocError) → ((records : List RecordMark) → counted old records new → GathersRecords gathered g records h)
+pub counted_gathered : {C G : Type 0} (counted : C → List RecordMark → C → Type 0) (gathered : G → List Event → G → Type 0) (width : ℕ) (plans : List Plan) (room : ℕ) (a : BufferedBits) (old new : C) (g h : G) (result : Result PassedRun AllocError) → ((records : List RecordMark) → counted old records new → GathersRecords gathered g records h) → IfOk result (λ run. run.room ≤ room)
     → IfOk result (λ run. (definitions : List (List Op)) → ArePlans definitions plans → (records : List RecordMark) × counted old records new × PassesRecords width definitions room a records run) → IfOk result (λ run. PassesRun gathered width plans room a g run h)
-counted_gathered counted gathered width plans room a old new g h (Ok run) gathers passed = λ definitions are. let p = passed definitions are in (p.0, p.2, gathers p.0 p.1)
-counted_gathered counted gathered width plans room a old new g h (Err e) gathers passed = tt
+counted_gathered counted gathered width plans room a old new g h (Ok run) gathers less passed = (less, λ definitions are. (let p = passed definitions are in (p.0, p.2, gathers p.0 p.1)))
+counted_gathered counted gathered width plans room a old new g h (Err e) gathers less passed = tt

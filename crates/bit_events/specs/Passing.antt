@@ -41,9 +41,10 @@ abbrev pub GathersRecords : {G : Type 0} → (G → List Event → G → Type 0)
 GathersRecords {G} gathered old records new = (first : G) (done : List Event) → gathered first done old
     → 0 < left_open done → gathered first (done ++ map notes records) new
 
--- For any definitions in force, the first of which have these plans: the records that come first in the buffered bits were gathered.
+-- No more values may come than before. For any definitions in force, the first of which have these plans: the records that come
+-- first in the buffered bits were gathered.
 abbrev pub PassesRun : {G : Type 0} → (G → List Event → G → Type 0) → (width : ℕ) → List Plan
     → (room : ℕ) → BufferedBits → G → PassedRun → G → Type 0
-PassesRun gathered width plans room a old run new = (definitions : List (List Op))
-    → ArePlans definitions plans → (records : List RecordMark)
-    × PassesRecords width definitions room a records run × GathersRecords gathered old records new
+PassesRun gathered width plans room a old run new = (run.room ≤ room)
+    × ((definitions : List (List Op)) → ArePlans definitions plans → (records : List RecordMark)
+    × PassesRecords width definitions room a records run × GathersRecords gathered old records new)

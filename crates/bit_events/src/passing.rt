@@ -105,7 +105,8 @@ pub fn pass_records<C: RunCounter>(
 ) -> Result<PassedRun, AllocError>
     requires width { width ≤ 32 }
     requires none { C.counted counter.old [] counter.old }
-    ensures { IfOk result (λ run. (definitions : List (List Op)) → ArePlans definitions plans.now
+    ensures less { IfOk result (λ run. run.room ≤ room) }
+    ensures passes { IfOk result (λ run. (definitions : List (List Op)) → ArePlans definitions plans.now
         → (records : List RecordMark) × C.counted counter.old records counter.new
         × PassesRecords width definitions room (placed bits.entry) records run) }
 {

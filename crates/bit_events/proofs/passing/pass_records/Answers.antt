@@ -11,6 +11,7 @@ use Rattle.bit_events.proofs.passing.pass_records.Goals as goal
 
 pub loop-bits-init : goal.loop-bits-init
 loop-bits-init g c = record {
+  less = omega arith;
   passed = λ definitions are. ([], c.requires.none, none_passed c.args.width definitions c.args.room (placed c.args.bits));
 }
 
@@ -27,6 +28,7 @@ loop-bits-smaller g c =
 
 pub loop-bits-preserved : goal.loop-bits-preserved
 loop-bits-preserved g c = record {
+  less = omega (arith, c.loop-bits.invariant.less);
   passed = λ definitions are.
       let l = c.loop-bits in
       let passed = c.in-Some.passed in
@@ -44,8 +46,8 @@ loop-bits-preserved g c = record {
       );
 }
 
-pub returns : goal.returns
-returns g c = λ definitions are.
+pub returns-clause-passes : goal.returns-clause-passes
+returns-clause-passes g c = λ definitions are.
     let l = c.loop-bits in
     let h = l.invariant.passed definitions are in
     (h.0, h.1, passes_records c.args.width definitions c.args.room (placed c.args.bits) h.0 l.room (placed l.bits) (record { after = c.position-2.result; room = l.room; is_over = c.loop-bits-test.is_over }) h.2 refl c.position-2.ensures)

@@ -8,6 +8,7 @@ use Rattle.bit_events.proofs.passing.pass_records.Given as goal
 
 abbrev pub invariant-loop-bits : goal.invariant-loop-bits
 invariant-loop-bits g l = record {
+  less : l.room ≤ l.fn.room;
   passed : (definitions : List (List Op)) → ArePlans definitions l.plans → (records : List RecordMark) × g.C.RunCounter.counted l.fn.counter records l.counter × PassedTo l.width definitions l.fn.room (placed l.fn.bits) records l.room (placed l.bits);
 }
 
