@@ -17,3 +17,4 @@ pub mod Kept
 pub mod Standings
 mod Named
 pub mod Rest
+pub mod PassedOver
