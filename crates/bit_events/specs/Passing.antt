@@ -1,5 +1,6 @@
 -- Records that are passed over, since only the number of their values is wanted.
 use Rattle.std.specs.Prelude.{◌≡◌, ℕ, ◌+◌, ◌-◌, ◌<◌, ◌≤◌, List, [], ◌∷◌, ◌++◌, None, map}
+use Rattle.bit_grammar.specs.declared.op.Op.{Op}
 use Rattle.bit_grammar.specs.Blocks.{Limits}
 use Rattle.bit_grammar.specs.Machine.{Event, notes}
 use Rattle.bit_grammar.specs.Marks.{RecordMark}
@@ -25,13 +26,13 @@ CountsOne {C} counted old mark new = (first : C) (done : List RecordMark) → co
 abbrev pub collected : List Event → List Event → List Event → Type 0
 collected first done last = done ≡ first ++ last
 
--- These records come first in the buffered bits, in a block with ids of this width whose first definitions have these plans, and
--- have at most `room` values.
-pub record PassesRecords (width : ℕ) (plans : List Plan) (room : ℕ) (a : BufferedBits)
+-- These records come first in the buffered bits, in a block with ids of this width and these definitions in force, and have at most
+-- `room` values.
+pub record PassesRecords (width : ℕ) (definitions : List (List Op)) (room : ℕ) (a : BufferedBits)
     (records : List RecordMark) (run : PassedRun) : Type 0 where
   pub less : run.room ≤ room
   pub passes : (limits : Limits) (f : Frame) (used : ℕ) → f.head.width ≡ width → f.info ≡ None
-      → ArePlans f.definitions plans → limits.values - used ≡ room
+      → f.definitions ≡ definitions → limits.values - used ≡ room
       → GathersRun collected limits f used a [] (used + (room - run.room)) run.after
       (map notes records)
 
@@ -40,8 +41,10 @@ abbrev pub GathersRecords : {G : Type 0} → (G → List Event → G → Type 0)
 GathersRecords {G} gathered old records new = (first : G) (done : List Event) → gathered first done old
     → 0 < left_open done → gathered first (done ++ map notes records) new
 
--- the records that come first in the buffered bits were gathered
+-- No more values may come than before. For any definitions in force, the first of which have these plans: the records that come
+-- first in the buffered bits were gathered.
 abbrev pub PassesRun : {G : Type 0} → (G → List Event → G → Type 0) → (width : ℕ) → List Plan
     → (room : ℕ) → BufferedBits → G → PassedRun → G → Type 0
-PassesRun gathered width plans room a old run new = (records : List RecordMark)
-    × PassesRecords width plans room a records run × GathersRecords gathered old records new
+PassesRun gathered width plans room a old run new = (run.room ≤ room)
+    × ((definitions : List (List Op)) → ArePlans definitions plans → (records : List RecordMark)
+    × PassesRecords width definitions room a records run × GathersRecords gathered old records new)

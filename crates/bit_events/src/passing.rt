@@ -1,6 +1,6 @@
 //! Records that are passed over, since only the number of their values is wanted.
 
-ghost use Rattle.std.specs.Prelude.{◌≡◌, ◌≤◌, ℕ, List, [], IfSome, IfOk, OnOk, length};
+ghost use Rattle.std.specs.Prelude.{◌≡◌, ◌+◌, ◌≤◌, ℕ, List, [], IfSome, IfOk, OnOk, length};
 ghost use Rattle.bit_grammar.specs.declared.op.Op.{Op};
 ghost use Rattle.bit_grammar.specs.Blocks.{entry};
 ghost use Rattle.bit_grammar.specs.Marks.{RecordMark};
@@ -26,8 +26,8 @@ impl PassedRun {
     /// No record.
     #[inline(always)]
     pub fn none(bits: PlacedBits<'_>, room: u64) -> PassedRun
-        ensures { (width : ℕ) (plans : List Plan)
-            → PassesRecords width plans room (placed bits.entry) [] result }
+        ensures { (width : ℕ) (definitions : List (List Op))
+            → PassesRecords width definitions room (placed bits.entry) [] result }
     {
         PassedRun {
             after: bits.position(),
@@ -81,9 +81,10 @@ fn pass_one(bits: PlacedBits<'_>, width: u32, id: u64, plans: &[Plan], room: u64
     requires width { width ≤ 32 }
     requires id { 3 ≤ id }
     requires there { 2240 ≤ length (placed bits).bits }
-    ensures { IfSome result (λ passed. (first : ℕ) (definitions : List (List Op))
+    ensures passes { IfSome result (λ passed. (first : ℕ) (definitions : List (List Op))
         → ArePlans definitions plans.now → passed.count ≤ room
         → PassesOver (entry room first id definitions) (beyond (placed bits.entry) width) passed) }
+    ensures within { IfSome result (λ passed. width + passed.len ≤ length (placed bits.entry).bits) }
 {
     let fields = bits.load().after(width);
     if id == 3 {
@@ -104,9 +105,10 @@ pub fn pass_records<C: RunCounter>(
 ) -> Result<PassedRun, AllocError>
     requires width { width ≤ 32 }
     requires none { C.counted counter.old [] counter.old }
-    ensures { IfOk result (λ run. (records : List RecordMark)
-        × C.counted counter.old records counter.new
-        × PassesRecords width plans.now room (placed bits.entry) records run) }
+    ensures less { IfOk result (λ run. run.room ≤ room) }
+    ensures passes { IfOk result (λ run. (definitions : List (List Op)) → ArePlans definitions plans.now
+        → (records : List RecordMark) × C.counted counter.old records counter.new
+        × PassesRecords width definitions room (placed bits.entry) records run) }
 {
     let mut bits = bits;
     let mut room = room;
