@@ -71,7 +71,7 @@ plain_entry room first id definitions a result b plain t =
     first_chosen (eqb id 3) (unabbreviated room) (choose (ltb (id - 4) (length definitions)) (by_definition first room (get_or definitions (id - 4) [])) (refuses (at UndefinedAbbrev first))) a result b (eq-eqb id 3 plain) t
 
 -- by a definition in force
-found_entry : (room first id : ℕ) (definitions : List (List Op)) (ops : List Op) (a : Reader) (result : Result CodeAndValues Fault) (b : Reader) → id ≢ 3 → slice_get definitions (id - 4) ≡ Some ops → Takes (by_definition first room ops) a result b → Takes (entry room first id definitions) a result b
+pub found_entry : (room first id : ℕ) (definitions : List (List Op)) (ops : List Op) (a : Reader) (result : Result CodeAndValues Fault) (b : Reader) → id ≢ 3 → slice_get definitions (id - 4) ≡ Some ops → Takes (by_definition first room ops) a result b → Takes (entry room first id definitions) a result b
 unfolding entry
 found_entry room first id definitions ops a result b other found t =
     let within : id - 4 < length definitions = slice_get_within definitions (id - 4) ops found in

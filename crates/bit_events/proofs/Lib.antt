@@ -16,3 +16,4 @@ pub mod Kept
 pub mod Standings
 mod Named
 pub mod Rest
+pub mod PassedOver

@@ -41,7 +41,6 @@ mod slice_events;
 mod slice_events_tests;
 mod with_first;
 
-pub use passing::{CountedRecord, PassedRun, RunCounter, Uncounted, pass_records};
 pub use checking::{check, check_keeping};
 pub use event::{Event, RecordHead};
 pub use events::Events;
@@ -49,4 +48,5 @@ pub use finder::{EventFinder, PackedEvent, PackedEvents};
 pub use folding::{Folded, fold};
 pub use gatherer::{Gatherer, PlainRecord};
 pub use open_blocks::OpenBlocks;
+pub use passing::{CountedRecord, PassedRun, RunCounter, Uncounted, pass_records};
 pub use slice_events::SliceEvents;

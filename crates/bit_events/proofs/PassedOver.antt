@@ -1,0 +1,143 @@
+-- Records that are passed over, one after another.
+use Rattle.std.proofs.Common.{◌≡◌, ◌≢◌, ℕ, zero, suc, ◌+◌, ◌-◌, ◌<◌, ◌≤◌, List, [], ◌∷◌, ◌++◌, length, map, Option, Some, None, Result, Ok, Err, IfSome, IfOk, slice_get, refl, sym, ap, ◌∙◌, subst, arith, append_assoc}
+use Rattle.std.specs.declared.alloc.AllocError.{AllocError}
+use Rattle.std.proofs.lemmas.List.{append-nil, length-drop, map-append}
+use Rattle.bit_grammar.specs.declared.op.Op.{Op}
+use Rattle.bit_grammar.specs.Blocks.{Limits, by_definition, entry}
+use Rattle.bit_grammar.specs.Fields.{fixed}
+use Rattle.bit_grammar.specs.Machine.{Event, notes}
+use Rattle.bit_grammar.specs.Marks.{RecordMark}
+use Rattle.bit_grammar.specs.Record.{unabbreviated}
+use Rattle.bit_grammar.specs.Terms.{CodeAndValues}
+use Rattle.bit_fields.specs.Buffered.{BufferedBits, Reads, beyond, reader_at}
+use Rattle.bit_fields.proofs.BufferedReads.{took_reads}
+use Rattle.bit_abbrev.specs.declared.plan.Passed.{Passed}
+use Rattle.bit_abbrev.specs.declared.plan.Plan.{Plan}
+use Rattle.bit_abbrev.specs.Plans.{ArePlans, IsPlan, PassesOver}
+use Rattle.bit_abbrev.proofs.Buffered.{took_at}
+use Rattle.bit_events.specs.declared.frame.Frame.{Frame}
+use Rattle.bit_events.specs.declared.passing.CountedRecord.{CountedRecord}
+use Rattle.bit_events.specs.declared.passing.PassedRun.{PassedRun}
+use Rattle.bit_events.specs.FrameView.{frame_shown, info_shown}
+use Rattle.bit_events.specs.MachineView.{record_of}
+use Rattle.bit_events.specs.Passing.{GathersRecords, PassesRecords, PassesRun, collected, mark_of}
+use Rattle.bit_events.specs.Runs.{GathersTo}
+use Rattle.bit_events.proofs.Framing.{found_entry, plain_entry}
+use Rattle.bit_events.proofs.PlacedHeads.{field_below}
+use Rattle.bit_events.proofs.Runs.{gathers_more, gathers_none, record_seen}
+
+-- ---- one record
+
+-- an id that is no special one takes bits
+pub some_bits : (width id : ℕ) (a b : BufferedBits) → width ≤ length a.bits → 3 ≤ id → Reads (fixed width) a id b → 0 < width
+some_bits zero id a b there most seen = absurd (omega (arith, most, field_below 0 id a b there seen))
+some_bits (suc n) id a b there most seen = omega arith
+
+plain_over : (room first id : ℕ) (definitions : List (List Op)) (a : BufferedBits) (passed : Passed) → id ≡ 3 → PassesOver (unabbreviated room) a passed → PassesOver (entry room first id definitions) a passed
+plain_over room first id definitions a passed plain h =
+    let value : CodeAndValues = record { code = passed.code; values = h.1.0 } in
+    let b = beyond a passed.len in
+    (h.0, (h.1.0, h.1.1, took_reads (entry room first id definitions) a value b (plain_entry room first id definitions (reader_at a) (Ok value) (reader_at b) plain (took_at (unabbreviated room) a value b h.1.2))))
+
+found_over : (room first id : ℕ) (definitions : List (List Op)) (ops : List Op) (a : BufferedBits) (passed : Passed) → id ≢ 3 → slice_get definitions (id - 4) ≡ Some ops → PassesOver (by_definition first room ops) a passed → PassesOver (entry room first id definitions) a passed
+found_over room first id definitions ops a passed other found h =
+    let value : CodeAndValues = record { code = passed.code; values = h.1.0 } in
+    let b = beyond a passed.len in
+    (h.0, (h.1.0, h.1.1, took_reads (entry room first id definitions) a value b (found_entry room first id definitions ops (reader_at a) (Ok value) (reader_at b) other found (took_at (by_definition first room ops) a value b h.1.2))))
+
+-- what passing over a record that is not abbreviated says
+abbrev PassesPlain : BufferedBits → Passed → Type 0
+PassesPlain fields passed = (room : ℕ) → passed.count ≤ room → PassesOver (unabbreviated room) fields passed
+
+-- what a plan says
+abbrev PassesPlanned : Plan → (room : ℕ) → BufferedBits → Passed → Type 0
+PassesPlanned plan room fields passed = (first : ℕ) (ops : List Op) → IsPlan ops plan → passed.count ≤ room → PassesOver (by_definition first room ops) fields passed
+
+-- a record after its id
+abbrev PassesEntry : List Plan → (id room : ℕ) → BufferedBits → Passed → Type 0
+PassesEntry plans id room fields passed = (first : ℕ) (definitions : List (List Op)) → ArePlans definitions plans → passed.count ≤ room → PassesOver (entry room first id definitions) fields passed
+
+pub plain_passes : (result : Option Passed) (plans : List Plan) (id room : ℕ) (fields a : BufferedBits) → fields ≡ a → id ≡ 3 → IfSome result (PassesPlain fields) → IfSome result (PassesEntry plans id room a)
+plain_passes None plans id room fields a is plain h = tt
+plain_passes (Some passed) plans id room fields a is plain h = λ first definitions are few. plain_over room first id definitions a passed plain (subst (λ (x : BufferedBits). PassesOver (unabbreviated room) x passed) is (h room few))
+
+pub planned_passes : (result : Option Passed) (plans : List Plan) (plan : Plan) (id room : ℕ) (fields a : BufferedBits) → fields ≡ a → id ≢ 3 → slice_get plans (id - 4) ≡ Some plan → IfSome result (PassesPlanned plan room fields) → IfSome result (PassesEntry plans id room a)
+planned_passes None plans plan id room fields a is other found h = tt
+planned_passes (Some passed) plans plan id room fields a is other found h = λ first definitions are few.
+    let d = are (id - 4) plan found in
+    found_over room first id definitions d.0 a passed other d.1 (subst (λ (x : BufferedBits). PassesOver (by_definition first room d.0) x passed) is (h first d.0 d.2 few))
+
+-- the bits that are passed over are there
+pub plain_within : (result : Option Passed) (width : ℕ) (fields a : BufferedBits) → fields ≡ beyond a width → width ≤ length a.bits → IfSome result (PassesPlain fields) → IfSome result (λ passed. width + passed.len ≤ length a.bits)
+plain_within None width fields a is there h = tt
+plain_within (Some passed) width fields a is there h =
+    let few : passed.count ≤ passed.count = omega arith in
+    let some = (h passed.count few).0 in
+    omega (arith, some, ap (λ (x : BufferedBits). length x.bits) is, length-drop width a.bits)
+
+pub all_within : (result : Option Passed) (width : ℕ) (fields a : BufferedBits) → fields ≡ beyond a width → width ≤ length a.bits → IfSome result (λ passed. passed.len ≤ length fields.bits) → IfSome result (λ passed. width + passed.len ≤ length a.bits)
+all_within None width fields a is there h = tt
+all_within (Some passed) width fields a is there h = omega (arith, h, ap (λ (x : BufferedBits). length x.bits) is, length-drop width a.bits)
+
+-- ---- several
+
+-- no record was gathered
+pub none_gathered : {G : Type 0} (gathered : G → List Event → G → Type 0) (g : G) → GathersRecords gathered g [] g
+none_gathered gathered g = λ first done was some. subst (λ (events : List Event). gathered first events g) (sym (append-nil done)) was
+
+-- These records come first, up to bits before which `left` values may still come.
+pub record PassedTo (width : ℕ) (definitions : List (List Op)) (room : ℕ) (a : BufferedBits) (records : List RecordMark) (left : ℕ) (b : BufferedBits) : Type 0 where
+  pub less : left ≤ room
+  pub passes : (limits : Limits) (f : Frame) (used : ℕ) → f.head.width ≡ width → f.info ≡ None → f.definitions ≡ definitions → limits.values - used ≡ room → GathersTo collected limits f used a [] (used + (room - left)) b (map notes records)
+
+pub none_passed : (width : ℕ) (definitions : List (List Op)) (room : ℕ) (a : BufferedBits) → PassedTo width definitions room a [] room a
+none_passed width definitions room a = record {
+  less = omega arith;
+  passes = λ limits f used wide plain same most.
+      let still : used ≡ used + (room - room) = omega arith in
+      subst (λ (n : ℕ). GathersTo collected limits f used a [] n a []) still (gathers_none collected limits f used a []);
+}
+
+pub passes_records : (width : ℕ) (definitions : List (List Op)) (room : ℕ) (a : BufferedBits) (records : List RecordMark) (left : ℕ) (b : BufferedBits) (run : PassedRun) → PassedTo width definitions room a records left b → run.room ≡ left → run.after ≡ b.position → PassesRecords width definitions room a records run
+passes_records width definitions room a records left b run so room_is after_is = record {
+  less = omega (arith, room_is, so.less);
+  passes = λ limits f used wide plain same most. (
+    b,
+    sym after_is,
+    subst (λ (n : ℕ). GathersTo collected limits f used a [] (used + (room - n)) b (map notes records)) (sym room_is) (so.passes limits f used wide plain same most),
+  );
+}
+
+-- one more record
+pub one_passed : (width : ℕ) (definitions : List (List Op)) (room : ℕ) (a : BufferedBits) (records : List RecordMark) (left : ℕ) (b : BufferedBits) (one : CountedRecord) (list : List ℕ) (c : BufferedBits) → PassedTo width definitions room a records left b → 3 ≤ one.id → Reads (fixed width) b one.id (beyond b width) → Reads (entry left b.position one.id definitions) (beyond b width) (record { code = one.code; values = list }) c → length list ≤ left → one.first ≡ b.position → one.after ≡ c.position
+    → PassedTo width definitions room a (records ++ mark_of one list ∷ []) (left - length list) c
+one_passed width definitions room a records left b one list c so most id_seen seen few first_is after_is = record {
+  less = omega (arith, so.less);
+  passes = λ limits f used wide plain same all.
+      let now : ℕ = used + (room - left) in
+      let more : used + (room - (left - length list)) ≡ now + length list = omega (arith, so.less, few) in
+      let id_here : Reads (fixed f.head.width) b one.id (beyond b width) = subst (λ (n : ℕ). Reads (fixed n) b one.id (beyond b width)) (sym wide) id_seen in
+      let here : Reads (entry left b.position one.id f.definitions) (beyond b width) (record { code = one.code; values = list }) c = subst (λ (d : List (List Op)). Reads (entry left b.position one.id d) (beyond b width) (record { code = one.code; values = list }) c) (sym same) seen in
+      subst (λ (events : List Event). GathersTo collected limits f used a [] (used + (room - (left - length list))) c events) (sym events)
+      (gathers_more collected limits f used a [] now b (map notes records) one.id one.code list c (map notes records ++ event ∷ []) (used + (room - (left - length list))) (so.passes limits f used wide plain same all) more
+      (λ outer handed used_is.
+      let left_is : left ≡ limits.values - handed.used = omega (arith, used_is, all, so.less) in
+      let entry_here : Reads (entry (limits.values - handed.used) b.position one.id f.definitions) (beyond b width) (record { code = one.code; values = list }) c = subst (λ (n : ℕ). Reads (entry n b.position one.id f.definitions) (beyond b width) (record { code = one.code; values = list }) c) left_is here in
+      record_seen limits (frame_shown f) outer handed one.id one.code list b (beyond b width) c (ap info_shown plain) most id_here (took_at (entry (limits.values - handed.used) b.position one.id f.definitions) (beyond b width) (record { code = one.code; values = list }) c entry_here))
+      (λ first done deepest was stands. ap (λ (s : List Event). s ++ event ∷ []) was ∙ append_assoc first (map notes records) (event ∷ [])));
+}
+  where
+    event : Event
+    event = record_of one.id list b.position (one.code, c.position)
+
+    event_is : notes (mark_of one list) ≡ event
+    event_is = rw (first_is, after_is) refl
+
+    events : map notes (records ++ mark_of one list ∷ []) ≡ map notes records ++ event ∷ []
+    events = map-append notes records (mark_of one list ∷ []) ∙ ap (λ (e : Event). map notes records ++ e ∷ []) event_is
+
+-- what a counter counted was gathered
+pub counted_gathered : {C G : Type 0} (counted : C → List RecordMark → C → Type 0) (gathered : G → List Event → G → Type 0) (width : ℕ) (plans : List Plan) (room : ℕ) (a : BufferedBits) (old new : C) (g h : G) (result : Result PassedRun AllocError) → ((records : List RecordMark) → counted old records new → GathersRecords gathered g records h) → IfOk result (λ run. run.room ≤ room)
+    → IfOk result (λ run. (definitions : List (List Op)) → ArePlans definitions plans → (records : List RecordMark) × counted old records new × PassesRecords width definitions room a records run) → IfOk result (λ run. PassesRun gathered width plans room a g run h)
+counted_gathered counted gathered width plans room a old new g h (Ok run) gathers less passed = (less, λ definitions are. (let p = passed definitions are in (p.0, p.2, gathers p.0 p.1)))
+counted_gathered counted gathered width plans room a old new g h (Err e) gathers less passed = tt

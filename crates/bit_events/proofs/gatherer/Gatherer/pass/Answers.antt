@@ -1,0 +1,7 @@
+use Rattle.std.proofs.Common.{[]}
+use Rattle.bit_events.proofs.PassedOver.{none_gathered}
+use Rattle.bit_events.proofs.gatherer.Gatherer.pass.Goals as goal
+
+pub returns-clause-gathers : goal.returns-clause-gathers
+returns-clause-gathers g c =
+    ((c.none.ensures c.args.width []).less, λ definitions are. ([], c.none.ensures c.args.width definitions, none_gathered g.Self.Gatherer.gathered c.args.self.now))
