@@ -1,4 +1,4 @@
-use Rattle.std.proofs.Common.{◌≡◌, ◌≤◌, List, length}
+use Rattle.std.proofs.Common.{◌≤◌, List, length}
 use Rattle.bit_grammar.specs.declared.op.Op.{Op}
 use Rattle.bit_grammar.specs.Marks.{RecordMark}
 use Rattle.bit_fields.specs.PlacedView.{placed}
