@@ -134,9 +134,10 @@ impl Plan {
     #[inline(always)]
     pub fn pass(&self, fields: LoadedBits<'_>, room: u64) -> Option<Passed>
         requires { 2208 ≤ length (loaded fields).bits }
-        ensures { IfSome result (λ passed. (first : ℕ) (ops : List Op) → IsPlan ops self.now
+        ensures passes { IfSome result (λ passed. (first : ℕ) (ops : List Op) → IsPlan ops self.now
             → passed.count ≤ room → PassesOver (by_definition first room ops) (loaded fields.entry)
             passed) }
+        ensures within { IfSome result (λ passed. passed.len ≤ length (loaded fields.entry).bits) }
     {
         if self.rest == Rest::Odd {
             return None;

@@ -9,8 +9,8 @@ use Rattle.bit_abbrev.specs.declared.plan.Rest.TheVariants.{Nothing, Odd}
 use Rattle.bit_abbrev.proofs.PassedRecords.{covered, shaped, singles_passed, array_passed}
 use Rattle.bit_abbrev.proofs.plan.Plan.pass.Goals as goal
 
-pub returns-then-eq-2 : goal.returns-then-eq-2
-returns-then-eq-2 c = λ first ops is few.
+pub returns-then-eq-2-clause-passes : goal.returns-then-eq-2-clause-passes
+returns-then-eq-2-clause-passes c = λ first ops is few.
     let planned : c.args.self.now.rest ≡ Odd → ⊥ = search rules in
     let nothing : c.args.self.now.rest ≡ Nothing = search rules in
     let p = is planned in
@@ -27,8 +27,8 @@ overflow_add-result c =
 pub overflow_add-result-2 : goal.overflow_add-result-2
 overflow_add-result-2 c = omega (arith, c.in_ok-more.ensures.few, c.from-count.ensures)
 
-pub returns : goal.returns
-returns c = λ first ops is few.
+pub returns-clause-passes : goal.returns-clause-passes
+returns-clause-passes c = λ first ops is few.
     let planned : c.args.self.now.rest ≡ Odd → ⊥ = search rules in
     let p = is planned in
     let values = covered p.others c.args.self.now.passes (loaded c.args.fields) c.in_ok-len.len p.covers c.in_ok-len.ensures.has (omega (arith, c.in_ok-len.ensures.left)) in
