@@ -10,6 +10,7 @@ pub mod SomeBytes
 pub mod Folds
 pub mod Runs
 pub mod Blocks
+pub mod Counting
 pub mod PlacedHeads
 pub mod InSlices
 pub mod Kept

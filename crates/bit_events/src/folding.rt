@@ -17,11 +17,9 @@ mod asking_tests;
 
 use crate::gatherer::Gatherer;
 use crate::machine::{Machine, Step};
-use crate::running::{count_records, gather_records, loaded_at};
+use crate::running::{buffered_from, count_records, gather_records, loaded_at};
 use crate::with_first::WithFirst;
-use bit_fields::{
-    BitReader, Buffered, BufferedParts, Fault, FieldWidth, Head, Limits, PlacedBits, Source,
-};
+use bit_fields::{BitReader, BufferedParts, Fault, FieldWidth, Head, Limits, PlacedBits, Source};
 use std::alloc::{AllocError, Global};
 
 /// The result of reading a whole input: its head, the gatherer of its events, and the bit after its stream.
@@ -103,13 +101,9 @@ fn gather_innermost<G: Gatherer>(
     }
     let used = &mut machine.used;
     if gatherer.counts() {
-        return count_records(
-            parts, first, loaded, frame, limits, used, gatherer, values,
-        );
+        return count_records(parts, first, loaded, frame, limits, used, gatherer, values);
     }
-    let mut buffered = Buffered::new(parts);
-    buffered.skip(first - parts.position());
-    buffered.divide(parts, loaded);
+    let buffered = buffered_from(parts, first, loaded);
     gather_records(buffered, frame, limits, used, gatherer, values)
 }
 

@@ -8,6 +8,7 @@ ghost use Rattle.bit_grammar.specs.Machine as machine;
 ghost use Rattle.bit_grammar.specs.Machine.{step_of};
 ghost use Rattle.bit_fields.specs.Buffered.{Reads, beyond};
 ghost use Rattle.bit_fields.specs.BufferedParts.{bits_of_parts, AreParts};
+ghost use Rattle.bit_abbrev.specs.Plans.{ArePlans};
 ghost use Rattle.bit_abbrev.specs.Values.{Gains, Has, Keeps};
 ghost use Rattle.bit_events.specs.FrameView.{frame_shown};
 ghost use Rattle.bit_events.specs.MachineView.{record_of, TookSome};
@@ -16,7 +17,7 @@ ghost use Rattle.bit_events.specs.Runs.{AddsBehind, GathersFrom, GathersRun, Rea
 use crate::entry::read_entry;
 use crate::frame::Frame;
 use crate::gatherer::Gatherer;
-use bit_abbrev::{Definitions, InForce, Lookup, MARGIN};
+use bit_abbrev::{Definitions, InForce, Lookup, MARGIN, Plan};
 use bit_fields::{Buffered, BufferedParts, FieldWidth, Limits, PlacedBits, ValueTaker};
 use std::alloc::AllocError;
 
@@ -214,9 +215,9 @@ pub(crate) fn gather_records<G: Gatherer>(
     }
 }
 
-/// Records that were read one by one: the bit after the last one, and whether no record comes there that is buffered.
+/// Records that were gathered: the bit after the last one, and whether no record comes there that is buffered.
 #[derive(Clone, Copy)]
-struct OddRun {
+struct GatheredRun {
     after: u64,
     is_over: bool,
 }
@@ -230,7 +231,7 @@ fn gather_odd<G: Gatherer>(
     used: &mut u64,
     gatherer: &mut G,
     values: &mut G::Values,
-) -> Result<OddRun, AllocError>
+) -> Result<GatheredRun, AllocError>
     requires took { TookSome G.Values.took values.old }
     requires plain { frame.now.info ≡ None }
     ensures took { TookSome G.Values.took values.new }
@@ -246,20 +247,20 @@ fn gather_odd<G: Gatherer>(
     let mut room = limits.values().saturating_sub(spent);
     let mut is_first = true;
     let definitions = frame.definitions.all();
-    let planned = frame.definitions.plans().len() as u32;
+    let planned = frame.definitions.plans().len();
     loop {
         values.truncate(0);
         let passes = !is_first && buffered.len() >= MARGIN;
         let Some(id) = record_id(&mut buffered, frame) else {
             *used = spent;
-            return Ok(OddRun {
+            return Ok(GatheredRun {
                 after: first,
                 is_over: true,
             });
         };
-        if passes && id - 3 <= planned {
+        if passes && (id - 3) as usize <= planned {
             *used = spent;
-            return Ok(OddRun {
+            return Ok(GatheredRun {
                 after: first,
                 is_over: false,
             });
@@ -273,7 +274,7 @@ fn gather_odd<G: Gatherer>(
             values,
         ) else {
             *used = spent;
-            return Ok(OddRun {
+            return Ok(GatheredRun {
                 after: first,
                 is_over: true,
             });
@@ -299,6 +300,59 @@ pub(crate) fn loaded_at(first: u64, loaded: u64) -> u64 {
         return first;
     }
     (first & !7).wrapping_add(64)
+}
+
+/// Lets the gatherer pass over records from a bit on, if the bits are there as bytes.
+#[inline(always)]
+fn pass_placed<G: Gatherer>(
+    parts: BufferedParts<'_>,
+    first: u64,
+    frame: &Frame,
+    plans: &[Plan],
+    limits: &Limits,
+    used: &mut u64,
+    gatherer: &mut G,
+) -> Result<GatheredRun, AllocError>
+    requires lawful { AreParts parts }
+    requires least { (bits_of_parts parts).position ≤ first }
+    requires there { first - (bits_of_parts parts).position ≤ length (bits_of_parts parts).bits }
+    requires plain { frame.now.info ≡ None }
+    requires plans { ArePlans frame.now.definitions plans.now }
+    ensures gathers { IfOk result (λ run. GathersRun G.gathered limits.now frame.now used.old
+        (beyond (bits_of_parts parts.entry) (first - (bits_of_parts parts.entry).position))
+        gatherer.old used.new run.after gatherer.new) }
+    ensures stops { OnErr result (StopsRun G.gathered G.fails limits.now frame.now used.old
+        (beyond (bits_of_parts parts.entry) (first - (bits_of_parts parts.entry).position))
+        gatherer.old gatherer.new) }
+{
+    let Some(bits) = PlacedBits::new(parts, first) else {
+        return Ok(GatheredRun {
+            after: first,
+            is_over: false,
+        });
+    };
+    let room = limits.values().saturating_sub(*used);
+    let run = gatherer.pass(bits, u32::from(frame.head.width), plans, room)?;
+    *used += room - run.room;
+    Ok(GatheredRun {
+        after: run.after,
+        is_over: run.is_over,
+    })
+}
+
+/// The buffered bits from a bit on, with a window that ends at `loaded`.
+#[inline(always)]
+pub(crate) fn buffered_from<'a>(parts: BufferedParts<'a>, first: u64, loaded: u64) -> Buffered<'a>
+    requires lawful { AreParts parts }
+    requires least { (bits_of_parts parts).position ≤ first }
+    requires there { first - (bits_of_parts parts).position ≤ length (bits_of_parts parts).bits }
+    ensures { result ≡ beyond (bits_of_parts parts.entry)
+        (first - (bits_of_parts parts.entry).position) }
+{
+    let mut buffered = Buffered::new(parts);
+    buffered.skip(first - parts.position());
+    buffered.divide(parts, loaded);
+    buffered
 }
 
 /// Gathers records of a block that is no BLOCKINFO block from a bit on, as long as they are completely buffered, and returns the bit
@@ -330,22 +384,15 @@ pub(crate) fn count_records<G: Gatherer>(
 {
     let mut first = start;
     let mut window = loaded;
-    let width = u32::from(frame.head.width);
     let plans = frame.definitions.plans();
     loop {
-        if let Some(bits) = PlacedBits::new(parts, first) {
-            let room = limits.values().saturating_sub(*used);
-            let run = gatherer.pass(bits, width, plans, room)?;
-            *used += room - run.room;
-            first = run.after;
-            if run.is_over {
-                return Ok(first);
-            }
+        let run = pass_placed(parts, first, frame, plans, limits, used, gatherer)?;
+        first = run.after;
+        if run.is_over {
+            return Ok(first);
         }
         window = loaded_at(first, window);
-        let mut buffered = Buffered::new(parts);
-        buffered.skip(first - parts.position());
-        buffered.divide(parts, window);
+        let buffered = buffered_from(parts, first, window);
         let run = gather_odd(buffered, frame, limits, used, gatherer, values)?;
         first = run.after;
         if run.is_over {
