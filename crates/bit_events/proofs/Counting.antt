@@ -22,7 +22,8 @@ use Rattle.bit_events.proofs.Stepping.{length-frames}
 pub run_passed : {G : Type 0} (gathered : G → List Event → G → Type 0) (limits : Limits) (f : Frame) (used : ℕ) (a : BufferedBits) (g : G) (width : ℕ) (plans : List Plan) (room : ℕ) (run : PassedRun) (h : G) → f.head.width ≡ width → f.info ≡ None → ArePlans f.definitions plans → limits.values - used ≡ room → PassesRun gathered width plans room a g run h
     → GathersRun gathered limits f used a g (used + (room - run.room)) run.after h
 run_passed gathered limits f used a g width plans room run h same plain are left p =
-    let to = p.1.passes limits f used same plain are left in
+    let q = p.1 f.definitions are in
+    let to = q.1.passes limits f used same plain refl left in
     let so = to.2 in (
       to.0,
       to.1,
@@ -42,7 +43,7 @@ run_passed gathered limits f used a g width plans room run h same plain are left
                 gathers = λ first done was levels.
                     let all = some.gathers done done (sym (append-nil done)) levels in
                     let open_yet : 0 < left_open done = omega (arith, levels, m.frames.ok.0, length-frames m.frames.items, ap length split) in
-                    (subst (λ (es : List Event). gathered first es h) (sym all.0) (p.2 first done was open_yet), all.1);
+                    (subst (λ (es : List Event). gathered first es h) (sym all.0) (q.2 first done was open_yet), all.1);
               },
               before.1,
             );
