@@ -21,4 +21,9 @@ returns-clause-passes c =
     let plan = c.in_ok-get.field-0.now in
     let at = c.in_ok-get.ensures.lookup in
     let found : slice_get c.args.plans.now (c.args.id - 4) ≡ Some plan = slice_get-get_or c.args.plans.now (c.args.id - 4) plan at.3.0 ∙ ap Some (sym at.1) in
-    planned_passes c.pass.result c.args.plans.now plan c.args.id c.args.room (loaded c.after-fields.result) (beyond (placed c.args.bits) c.args.width) here c.if-id-eq3.false found c.pass.ensures
+    planned_passes c.pass.result c.args.plans.now plan c.args.id c.args.room (loaded c.after-fields.result) (beyond (placed c.args.bits) c.args.width) here c.if-id-eq3.false found c.pass.ensures.passes
+
+pub returns-clause-within : goal.returns-clause-within
+returns-clause-within c =
+    let here : loaded c.after-fields.result ≡ beyond (placed c.args.bits) c.args.width = c.after-fields.ensures ∙ ap (λ (b : BufferedBits). beyond b c.args.width) c.load.ensures in
+    all_within c.pass.result c.args.width (loaded c.after-fields.result) (placed c.args.bits) here (omega arith) c.pass.ensures.within
