@@ -1,10 +1,14 @@
 //! Records that are passed over by plans, and the same records read field by field.
 
+ghost use Rattle.std.specs.Prelude.{◌≤◌, length, IfSome};
+ghost use Rattle.bit_fields.specs.BufferedParts.{AreParts};
+ghost use Rattle.bit_fields.specs.PlacedView.{loaded};
+
 use crate::plan::{MARGIN, Passed, Plan};
 use crate::{Abbrev, Op, pass_plain, read_plain, read_record};
 use bit_fields::{
-    BitReader, Buffered, BufferedParts, FieldWidth, Limits, LoadedBits, PlacedBits, SliceSource,
-    ValueCount, ValueTaker,
+    BitReader, Buffered, BufferedParts, Limits, LoadedBits, PlacedBits, SliceSource, ValueCount,
+    ValueTaker,
 };
 use smallvec::SmallVec;
 use std::process::Abort;
@@ -31,9 +35,15 @@ fn made(seed: u64) -> [u8; 700] {
 }
 
 /// The bits behind the first ones of an input, buffered and loaded.
-fn behind<'a>(parts: BufferedParts<'a>, skipped: u64) -> Option<(Buffered<'a>, LoadedBits<'a>)> {
+fn behind<'a>(parts: BufferedParts<'a>, skipped: u64) -> Option<(Buffered<'a>, LoadedBits<'a>)>
+    requires { AreParts parts }
+    ensures { IfSome result (λ found. 2208 ≤ length (loaded found.1).bits) }
+{
     let mut buffered = Buffered::new(parts);
-    buffered.skip_fields(skipped, FieldWidth { bits: 1 });
+    if buffered.len() < skipped {
+        return None;
+    }
+    buffered.skip(skipped);
     let bits = PlacedBits::new(parts, buffered.position())?;
     if !bits.has(MARGIN) {
         return None;
@@ -114,7 +124,12 @@ fn is_passed(rt: &impl Abort, abbrev: &Abbrev, bytes: &[u8], skipped: u64) -> bo
     );
     let code = read.ok().expect(rt, "a record");
     assert!(rt;
-        same(passed, code, &values, buffered.position() - first),
+        same(
+            passed,
+            code,
+            &values,
+            buffered.position().wrapping_sub(first)
+        ),
         "{skipped}"
     );
     true
@@ -135,7 +150,12 @@ fn is_plain_passed(rt: &impl Abort, bytes: &[u8], skipped: u64) -> bool {
     let read = read_plain::<(), Buffered, ValueCount>(&mut buffered, 100_000, &mut values);
     let code = read.ok().expect(rt, "a record");
     assert!(rt;
-        same(passed, code, &values, buffered.position() - first),
+        same(
+            passed,
+            code,
+            &values,
+            buffered.position().wrapping_sub(first)
+        ),
         "{skipped}"
     );
     true

@@ -418,59 +418,6 @@ impl<'a> Buffered<'a> {
         Some(())
     }
 
-    /// Moves bytes into the window if it has fewer than n bits: as many as it has room for, as an exact reader loads them.
-    #[inline(always)]
-    fn load_for(&mut self, n: u32)
-        ensures { self.new ≡ self.old }
-    {
-        let len = self.window.len();
-        if len < n {
-            self.hold(64 - u64::from(64 - len) % 8);
-        }
-    }
-
-    /// Reads a number of n bits, as `fixed` does. The window then has the bits that an exact reader has in its own.
-    #[inline(always)]
-    pub fn fixed_as_reader(&mut self, n: FieldWidth) -> Option<u64>
-        ensures reads { IfSome result (λ value. Reads (fixed n.bits) self.old value self.new) }
-        ensures below { IfSome result (λ value. value < 2 ^ n.bits) }
-        ensures moves { OnSome result (self.new.position ≡ self.old.position + n.bits) }
-        ensures stays { IfNone result (self.new ≡ self.old) }
-    {
-        self.load_for(n.bits);
-        let value = self.held_part(n.bits)?;
-        Some(value)
-    }
-
-    /// Reads a number of one chunk of n bits, in the same way.
-    #[inline(always)]
-    pub fn chunk_as_reader(&mut self, n: ChunkWidth) -> Option<u64>
-        ensures reads { IfSome result (λ value. Reads (vbr n.bits) self.old value self.new) }
-        ensures moves { OnSome result (self.new.position ≡ self.old.position + n.bits) }
-        ensures stays { IfNone result (self.new ≡ self.old) }
-    {
-        self.load_for(n.bits);
-        let value = self.one_chunk(n)?;
-        Some(value)
-    }
-
-    /// Reads zeros up to the next position that is a multiple of 32, in the same way: an exact reader takes those that it has, and
-    /// then loads eight bytes.
-    #[inline(always)]
-    pub fn pad_as_reader(&mut self) -> Option<()>
-        ensures reads { OnSome result (Reads align32 self.old tt self.new) }
-        ensures aligned { OnSome result (self.new.position % 32 ≡ 0) }
-        ensures moves { OnSome result (self.old.position ≤ self.new.position) }
-    {
-        let loaded = self.loaded();
-        self.pad()?;
-        let after = self.position();
-        if after > loaded {
-            self.hold(loaded.wrapping_sub(after).wrapping_add(64));
-        }
-        Some(())
-    }
-
     /// Reads a number of 8 bits, if they are in the window. The window is not refilled.
     #[inline(always)]
     pub fn held_byte(&mut self) -> Option<u64>
