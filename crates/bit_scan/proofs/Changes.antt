@@ -4,6 +4,7 @@ use Rattle.std.specs.Prelude.{OnOk}
 use Rattle.std.specs.declared.alloc.AllocError.{AllocError}
 use Rattle.std.proofs.Math.ListN.{set}
 use Rattle.std.specs.Map.{keys_of}
+use Rattle.bit_grammar.specs.Marks.{RecordMark}
 use Rattle.bit_grammar.specs.Tally.{CodeTally, BlockTally}
 use Rattle.bit_grammar.specs.Counting.{fresh_code, fresh_row, with_row}
 use Rattle.bit_scan.specs.Additions.{with_added}
@@ -11,7 +12,7 @@ use Rattle.bit_scan.specs.CodesView.{code_tally, code_tallies, one_more, with_us
 use Rattle.bit_scan.specs.Cut.{cut_code, cut_row, cut_rows}
 use Rattle.bit_grammar.specs.Bits.{saturated}
 use Rattle.bit_scan.specs.Indexed.{IsAbsent, AreDistinct}
-use Rattle.bit_scan.specs.Rows.{block_tally, block_tallies}
+use Rattle.bit_scan.specs.Rows.{block_tally, block_tallies, with_records, CountsInRow}
 use Rattle.bit_scan.specs.declared.rows.Addition.{Addition}
 use Rattle.bit_scan.specs.declared.rows.BlockRow.{BlockRow}
 use Rattle.bit_scan.specs.declared.rows.CodeRow.{CodeRow}
@@ -51,6 +52,13 @@ pub added_at : (result : Result (Unit {0}) AllocError) (es : List (ℕ × BlockR
 added_at (Ok v) es tallies id j i addition old new step distinct found at shown =
     changed_at block_tally (λ (x : BlockTally). x.id) cut_row fresh_row (with_added addition) rows_shown id j old new step es tallies i shown distinct found at
 added_at (Err e) es tallies id j i addition old new step distinct found at shown = tt
+
+-- records in an existing row
+pub records_at : (records : List RecordMark) (es : List (ℕ × BlockRow)) (tallies : List BlockTally) (id j i : ℕ) (old new : BlockRow) → CountsInRow old records new
+    → AreDistinct (keys_of es) → slice_get es i ≡ Some (j, old) → slice_get (keys_of es) i ≡ Some id → block_tallies es ≡ cut_rows tallies
+    → block_tallies (set es i (j, new)) ≡ cut_rows (with_row (with_records records) id tallies)
+records_at records es tallies id j i old new counted distinct found at shown =
+    changed_at block_tally (λ (x : BlockTally). x.id) cut_row fresh_row (with_records records) rows_shown id j old new (counted id) es tallies i shown distinct found at
 
 -- the first of a row
 pub added_absent : (es : List (ℕ × BlockRow)) (tallies : List BlockTally) (id : ℕ) (addition : Addition) (fresh new : BlockRow)

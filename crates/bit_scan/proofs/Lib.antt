@@ -21,6 +21,7 @@ pub mod Counted
 pub mod Analysed
 pub mod Showings
 pub mod Parted
+pub mod PassedRows
 pub mod Tellings
 pub mod Walks
 pub mod Noted

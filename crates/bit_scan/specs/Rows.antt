@@ -1,11 +1,12 @@
 -- The view of the rows of an analysis.
 use Rattle.std.specs.Prelude.{◌≡◌, ℕ, List, [], ◌∷◌, map, Result, OnOk}
+use Rattle.std.specs.Borrow.{MutBor}
 use Rattle.bit_grammar.specs.Marks.{RecordMark}
 use Rattle.bit_grammar.specs.Tally.{BlockTally}
 use Rattle.bit_grammar.specs.Counting.{one_record, with_row}
 use Rattle.bit_scan.specs.Additions.{with_added}
 use Rattle.bit_scan.specs.CodesView.{code_tallies}
-use Rattle.bit_scan.specs.Cut.{cut_rows}
+use Rattle.bit_scan.specs.Cut.{cut_row, cut_rows}
 use Rattle.bit_scan.specs.declared.rows.Addition.{Addition}
 use Rattle.bit_scan.specs.declared.rows.BlockRow.{BlockRow}
 
@@ -41,6 +42,11 @@ with_records (mark ∷ records) tally = with_records records (one_record mark ta
 abbrev pub CountsInRow : BlockRow → List RecordMark → BlockRow → Type 0
 CountsInRow old records new = (id : ℕ) (tally : BlockTally) → block_tally (id, old) ≡ cut_row tally
     → block_tally (id, new) ≡ cut_row (with_records records tally)
+
+-- the same reference, to a row with these records more
+pub record CountsBehind (old : MutBor BlockRow) (records : List RecordMark) (new : MutBor BlockRow) : Type 0 where
+  pub same : new.ghost_name ≡ old.ghost_name
+  pub counts : CountsInRow old.now records new.now
 
 -- the rows after these records of a block with this id
 abbrev pub rows_after : List RecordMark → (id : ℕ) → List BlockTally → List BlockTally

@@ -7,14 +7,16 @@ ghost use Rattle.bit_scan.specs.Additions.{with_added};
 ghost use Rattle.bit_scan.specs.CodesView.{code_tallies, with_use, CountsUse};
 ghost use Rattle.bit_scan.specs.Cut.{cut_code, cut_row, cut_rows};
 ghost use Rattle.bit_grammar.specs.Marks.{RecordMark};
+ghost use Rattle.bit_grammar.specs.declared.op.Op.{Op};
 ghost use Rattle.bit_fields.specs.PlacedView.{placed};
+ghost use Rattle.bit_abbrev.specs.Plans.{ArePlans};
 ghost use Rattle.bit_events.specs.Passing.{PassesRecords};
-ghost use Rattle.bit_scan.specs.Rows.{block_tally, block_tallies, rows_after, AddsToRow};
+ghost use Rattle.bit_scan.specs.Rows.{block_tally, block_tallies, rows_after, AddsToRow, CountsInRow};
 
+use crate::links::{Keyed, Spot, find, is_at, lead};
 use bit_abbrev::Plan;
 use bit_events::{CountedRecord, PassedRun, RunCounter, pass_records};
 use bit_fields::PlacedBits;
-use crate::links::{Keyed, Spot, find, is_at, lead};
 use std::alloc::{AllocError, Global};
 use std::marker::Model;
 
@@ -287,9 +289,9 @@ struct RowCounter<'a> {
 }
 
 impl<'a> RunCounter for RowCounter<'a> {
-    ghost use Rattle.bit_scan.specs.Rows.{CountsInRow};
+    ghost use Rattle.bit_scan.specs.Rows.{CountsBehind};
 
-    ghost counted = { λ first records last. CountsInRow first.row.now records last.row.now };
+    ghost counted = { λ first records last. CountsBehind first.row records last.row };
 
     #[inline(always)]
     fn count(&mut self, passed: CountedRecord) -> Result<(), AllocError> {
@@ -300,6 +302,34 @@ impl<'a> RunCounter for RowCounter<'a> {
             bits: passed.after - passed.first,
         };
         self.row.add(self.places, self.place, addition)
+    }
+}
+
+impl BlockRow {
+    /// Passes over records of a block and counts them in the row, which is at a place.
+    #[inline(always)]
+    fn pass(
+        &mut self,
+        places: &mut Places,
+        place: usize,
+        bits: PlacedBits<'_>,
+        width: u32,
+        plans: &[Plan],
+        room: u64,
+    ) -> Result<PassedRun, AllocError>
+        requires { width ≤ 32 }
+        ensures less { IfOk result (λ run. run.room ≤ room) }
+        ensures passes { (definitions : List (List Op)) → ArePlans definitions plans.now
+            → IfOk result (λ run. (records : List RecordMark)
+            × CountsInRow self.old records self.new
+            × PassesRecords width definitions room (placed bits.entry) records run) }
+    {
+        let mut counter = RowCounter {
+            row: self,
+            places,
+            place,
+        };
+        pass_records(bits, width, plans, room, &mut counter)
     }
 }
 
@@ -330,6 +360,33 @@ fn add_at(
 {
     let (_, row) = &mut rows[place];
     row.add(places, place, addition)
+}
+
+/// Passes over records of a block and counts them in its row, which is at a place.
+#[inline(always)]
+fn pass_at(
+    rows: &mut [(u32, BlockRow)],
+    places: &mut Places,
+    place: usize,
+    bits: PlacedBits<'_>,
+    width: u32,
+    plans: &[Plan],
+    room: u64,
+) -> Result<PassedRun, AllocError>
+    requires within { place < length rows.old }
+    requires width { width ≤ 32 }
+    ensures keys { keys_of rows.new ≡ keys_of rows.old }
+    ensures less { IfOk result (λ run. run.room ≤ room) }
+    ensures passes { (definitions : List (List Op)) → ArePlans definitions plans.now
+        → IfOk result (λ run. (records : List RecordMark)
+        × PassesRecords width definitions room (placed bits.entry) records run
+        × ((id : ℕ) (tallies : List BlockTally) → AreDistinct (keys_of rows.old)
+        → slice_get (keys_of rows.old) place ≡ Some id
+        → block_tallies rows.old ≡ cut_rows tallies
+        → block_tallies rows.new ≡ cut_rows (rows_after records id tallies))) }
+{
+    let (_, row) = &mut rows[place];
+    row.pass(places, place, bits, width, plans, room)
 }
 
 /// Begins the row of an id that has none, at the end, with what an event adds, and returns its place.
@@ -442,21 +499,25 @@ impl BlockRows {
         room: u64,
     ) -> Result<PassedRun, AllocError>
         requires { width ≤ 32 }
-        ensures { IfOk result (λ run. (records : List RecordMark)
-            × PassesRecords width plans.now room (placed bits.entry) records run
+        ensures less { IfOk result (λ run. run.room ≤ room) }
+        ensures passes { (definitions : List (List Op)) → ArePlans definitions plans.now
+            → IfOk result (λ run. (records : List RecordMark)
+            × PassesRecords width definitions room (placed bits.entry) records run
             × ((tallies : List BlockTally) → block_tallies self.old ≡ cut_rows tallies
             → block_tallies self.new ≡ cut_rows (rows_after records id tallies))) }
     {
         if !is_at(&self.rows, place, u64::from(id)) {
             return Ok(PassedRun::none(bits, room));
         }
-        let (_, row) = &mut self.rows[place];
-        let mut counter = RowCounter {
-            row,
-            places: &mut self.places,
+        pass_at(
+            &mut self.rows,
+            &mut self.places,
             place,
-        };
-        pass_records(bits, width, plans, room, &mut counter)
+            bits,
+            width,
+            plans,
+            room,
+        )
     }
 
     /// Each id and its row.
