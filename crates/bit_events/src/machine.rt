@@ -6,6 +6,7 @@ ghost use Rattle.bit_grammar.specs.Machine.{at_start, open_block, open_nested, s
 ghost use Rattle.bit_fields.specs.Reader.{Takes, told_by};
 ghost use Rattle.bit_fields.specs.Buffered.{Reads};
 ghost use Rattle.bit_fields.specs.PlacedView.{placed};
+ghost use Rattle.bit_abbrev.specs.Table.{definitions_at};
 ghost use Rattle.bit_abbrev.specs.Values.{Gains, Has, Keeps};
 ghost use Rattle.bit_events.specs.Next.{FindsNext};
 ghost use Rattle.bit_events.specs.EventView.{shown_if_any};

@@ -1,7 +1,7 @@
 -- Records that are passed over, counted in the row of the innermost open block.
-use Rattle.std.proofs.Common.{◌≡◌, ℕ, ◌+◌, ◌-◌, ◌<◌, zero, suc, Bool, true, false, List, [], ◌∷◌, ◌++◌, length, map, Some, Result, Ok, Err, refl, sym, ap, ◌∙◌, subst, slice_get, if◌then◌else◌, ◌==◌, leb, MutBor}
+use Rattle.std.proofs.Common.{◌≡◌, ℕ, ◌-◌, ◌<◌, zero, suc, Bool, true, false, List, [], ◌∷◌, ◌++◌, length, map, Some, Result, Ok, Err, refl, sym, ap, ◌∙◌, subst, slice_get, if◌then◌else◌, ◌==◌, leb, MutBor}
 use Rattle.std.proofs.Math.ListN.{set}
-use Rattle.std.proofs.lemmas.Bool.{eq-eqb, ne_eqb}
+use Rattle.std.proofs.lemmas.Bool.{eq-eqb}
 use Rattle.std.specs.Prelude.{OnOk, IfOk}
 use Rattle.std.specs.Map.{keys_of}
 use Rattle.std.specs.declared.alloc.AllocError.{AllocError}

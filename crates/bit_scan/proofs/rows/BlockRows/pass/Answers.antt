@@ -1,4 +1,4 @@
-use Rattle.std.proofs.Common.{◌≡◌, ℕ, List, [], Some, refl, sym, subst, slice_get}
+use Rattle.std.proofs.Common.{◌≡◌, ℕ, List, [], Some, subst, slice_get}
 use Rattle.std.specs.Map.{keys_of}
 use Rattle.bit_scan.specs.declared.rows.BlockRow.{BlockRow}
 use Rattle.bit_scan.proofs.Indexing.{place_within}

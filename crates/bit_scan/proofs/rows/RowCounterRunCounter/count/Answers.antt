@@ -1,5 +1,4 @@
-use Rattle.std.proofs.Common.{refl, MutBor}
-use Rattle.bit_scan.specs.declared.rows.BlockRow.{BlockRow}
+use Rattle.std.proofs.Common.{refl}
 use Rattle.bit_scan.proofs.PassedRows.{one_passed}
 use Rattle.bit_scan.proofs.rows.RowCounterRunCounter.count.Goals as goal
 
