@@ -1,5 +1,5 @@
 -- Beginnings and ends of blocks that are buffered, and what is gathered with them.
-use Rattle.std.proofs.Common.{◌≡◌, ℕ, ◌+◌, ◌-◌, ◌%◌, ◌<◌, ◌≤◌, zero, suc, is_none, is_some, Bool, true, false, List, [], ◌∷◌, ◌++◌, length, length-append, get_or, vec_len, drop, None, Some, Option, Result, Ok, Err, refl, sym, ap, subst, ◌∙◌, arith, ltb}
+use Rattle.std.proofs.Common.{◌≡◌, ℕ, ◌+◌, ◌-◌, ◌%◌, ◌<◌, ◌≤◌, suc, is_none, is_some, Bool, true, false, List, [], ◌∷◌, ◌++◌, length, length-append, get_or, vec_len, drop, None, Some, Option, Result, Ok, Err, refl, sym, ap, subst, ◌∙◌, arith, ltb}
 use Rattle.std.specs.Prelude.{IfNone, IfSome, IsNone, OnOk}
 use Rattle.std.proofs.lemmas.List.{append-nil, drop_at}
 use Rattle.std.proofs.lemmas.Bool.{lt-ltb}

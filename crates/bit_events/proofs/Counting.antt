@@ -1,16 +1,13 @@
 -- Gathering records of which only the number of values is wanted.
-use Rattle.std.proofs.Common.{◌≡◌, ℕ, ◌+◌, ◌-◌, ◌≤◌, ◌<◌, List, [], ◌∷◌, ◌++◌, length, length-append, None, refl, sym, ap, subst, arith, take, drop, map}
+use Rattle.std.proofs.Common.{◌≡◌, ℕ, ◌+◌, ◌-◌, ◌≤◌, ◌<◌, List, length, length-append, None, refl, sym, ap, subst, arith, take}
 use Rattle.std.proofs.lemmas.List.{append-nil, length-take-le, take-append-drop}
 use Rattle.bit_grammar.specs.Blocks.{Limits}
-use Rattle.bit_grammar.specs.Machine as machine
-use Rattle.bit_grammar.specs.Machine.{Event, notes}
+use Rattle.bit_grammar.specs.Machine.{Event}
 use Rattle.bit_fields.specs.Buffered.{BufferedBits, beyond}
 use Rattle.bit_abbrev.specs.declared.plan.Plan.{Plan}
 use Rattle.bit_abbrev.specs.Plans.{ArePlans}
 use Rattle.bit_events.specs.declared.frame.Frame.{Frame}
-use Rattle.bit_events.specs.declared.machine.Machine.{Machine}
 use Rattle.bit_events.specs.declared.passing.PassedRun.{PassedRun}
-use Rattle.bit_events.specs.FrameView.{frame_shown, frames_shown}
 use Rattle.bit_events.specs.Gathering.{left_open}
 use Rattle.bit_events.specs.Passing.{PassesRun}
 use Rattle.bit_events.specs.Runs.{GathersRun, GathersTo, Passed}

@@ -21,7 +21,6 @@ use Rattle.bit_fields.proofs.Chunks.{one_chunk}
 use Rattle.bit_fields.proofs.LentParts.{pad_reads, parts_is}
 use Rattle.bit_fields.proofs.Parts.{part_at}
 use Rattle.bit_fields.proofs.Placing.{length_at}
-use Rattle.bit_events.specs.Runs.{ReadsUpTo}
 use Rattle.bit_events.proofs.Blocks.{judged}
 use Rattle.bit_events.proofs.Telling.{told, andThen, ends, here}
 

@@ -1,7 +1,8 @@
 -- Records that are passed over, counted in the row of the innermost open block.
-use Rattle.std.proofs.Common.{◌≡◌, ℕ, ◌-◌, ◌<◌, zero, suc, Bool, true, false, List, [], ◌∷◌, ◌++◌, length, map, Some, Result, Ok, Err, refl, sym, ap, ◌∙◌, subst, slice_get, if◌then◌else◌, ◌==◌, leb, MutBor}
+use Rattle.std.proofs.Common.{◌≡◌, ℕ, ◌-◌, ◌<◌, zero, suc, Bool, true, false, List, [], ◌∷◌, ◌++◌, length, map, Some, Result, Ok, Err, refl, sym, ap, ◌∙◌, subst, slice_get, if◌then◌else◌, ◌==◌, leb, MutBor, arith, take, drop}
 use Rattle.std.proofs.Math.ListN.{set}
 use Rattle.std.proofs.lemmas.Bool.{eq-eqb}
+use Rattle.std.proofs.lemmas.List.{take_at}
 use Rattle.std.specs.Prelude.{OnOk, IfOk}
 use Rattle.std.specs.Map.{keys_of}
 use Rattle.std.specs.declared.alloc.AllocError.{AllocError}
@@ -23,6 +24,7 @@ use Rattle.bit_scan.specs.declared.rows.Addition.TheVariants as addition
 use Rattle.bit_scan.specs.declared.rows.BlockRow.{BlockRow}
 use Rattle.bit_scan.specs.declared.rows.RowCounter.{RowCounter}
 use Rattle.bit_scan.proofs.Changes.{records_at}
+use Rattle.bit_scan.proofs.Changing.{keys_length}
 use Rattle.bit_scan.proofs.OpenBlocks.{Last, the_last, open_push}
 
 -- ---- one more record
@@ -105,6 +107,25 @@ pub run_passed : {T : Type 0} (Passes : List RecordMark → T → Type 0) (resul
     → block_tallies (set es i (j, new)) ≡ cut_rows (rows_after records id tallies)))
 run_passed Passes (Ok run) es j i old new found passed = (passed.0, passed.2, λ id tallies distinct at shown. records_passed passed.0 es tallies id j i old new passed.1 distinct found at shown)
 run_passed Passes (Err e) es j i old new found passed = tt
+
+-- the same for rows that were lent to the call and written back, `len` in number
+pub lent_passed : {T : Type 0} (Passes : List RecordMark → T → Type 0) (result : Result T AllocError) (id i len : ℕ) (all items lent new : List (ℕ × BlockRow))
+    → lent ≡ items → items ≡ all → keys_of new ≡ keys_of lent → length items ≡ len → AreDistinct (keys_of items) → slice_get (keys_of items) i ≡ Some id
+    → IfOk result (λ run. (records : List RecordMark) × Passes records run
+    × ((id : ℕ) (tallies : List BlockTally) → AreDistinct (keys_of lent) → slice_get (keys_of lent) i ≡ Some id → block_tallies lent ≡ cut_rows tallies → block_tallies new ≡ cut_rows (rows_after records id tallies)))
+    → IfOk result (λ run. (records : List RecordMark) × Passes records run
+    × ((tallies : List BlockTally) → block_tallies all ≡ cut_rows tallies → block_tallies (take len (new ++ drop (length new) items)) ≡ cut_rows (rows_after records id tallies)))
+lent_passed Passes (Ok run) id i len all items lent new is view keys many distinct at passed = (
+  passed.0,
+  passed.1,
+  λ tallies shown.
+      let same : length new ≡ len = omega (arith, keys_length new, keys_length lent, ap length keys, ap length is, many) in
+      let whole = take_at new (drop (length new) items) len same in
+      subst (λ (rows : List (ℕ × BlockRow)). block_tallies rows ≡ cut_rows (rows_after passed.0 id tallies)) (sym whole)
+      (passed.2 id tallies (subst (λ (rows : List (ℕ × BlockRow)). AreDistinct (keys_of rows)) (sym is) distinct) (subst (λ (rows : List (ℕ × BlockRow)). slice_get (keys_of rows) i ≡ Some id) (sym is) at)
+      (subst (λ (rows : List (ℕ × BlockRow)). block_tallies rows ≡ cut_rows tallies) (sym (is ∙ view)) shown)),
+)
+lent_passed Passes (Err e) id i len all items lent new is view keys many distinct at passed = tt
 
 -- ---- events
 

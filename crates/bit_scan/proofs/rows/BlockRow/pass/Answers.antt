@@ -1,11 +1,7 @@
-use Rattle.std.proofs.Common.{List, refl, rules}
+use Rattle.std.proofs.Common.{refl, rules}
 use Rattle.std.proofs.lemmas.Result.{IfOk-weaker}
-use Rattle.bit_grammar.specs.declared.op.Op.{Op}
-use Rattle.bit_grammar.specs.Marks.{RecordMark}
 use Rattle.bit_fields.specs.PlacedView.{placed}
-use Rattle.bit_abbrev.specs.Plans.{ArePlans}
 use Rattle.bit_events.specs.Passing.{PassesRecords}
-use Rattle.bit_scan.specs.Rows.{CountsBehind}
 use Rattle.bit_scan.proofs.PassedRows.{row_left}
 use Rattle.bit_scan.proofs.rows.BlockRow.pass.Goals as goal
 
