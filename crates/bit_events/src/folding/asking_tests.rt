@@ -7,13 +7,14 @@ use super::{gather_next, hand_on};
 use crate::events_tests::{Pieces, pieces_of};
 use crate::folding_tests::Text;
 use crate::machine::Machine;
+use crate::passing::{CountedRecord, PassedRun, RunCounter, pass_records};
 use crate::running::gather_records;
 use crate::with_first::WithFirst;
 use crate::{Gatherer, fold};
-use bit_abbrev::{Abbrev, Planning};
+use bit_abbrev::{Abbrev, Plan, Planning};
 use bit_fields::{
-    BitReader, BufSource, Buffered, Fault, FrontSource, KeptSource, Limits, SliceSource, Source,
-    ValueCount, ValueTaker,
+    BitReader, BufSource, Buffered, Fault, FrontSource, KeptSource, Limits, PlacedBits,
+    SliceSource, Source, ValueCount, ValueTaker,
 };
 use std::alloc::{AllocError, Global};
 use std::io;
@@ -196,7 +197,7 @@ fn counts_alike<S: Source>(
     source: S,
     read: S,
 ) -> (S, S) {
-    let none = Counted::failing_after(case.events);
+    let none = Counted::failing_after(case.events, case.fails_at % 2 == 0);
     let (new, source) = fold(alloc, source, case.limits, none);
     let (old, counted, read) = fold_by_records(alloc, read, case.limits, none);
     match (new, old) {
@@ -234,22 +235,24 @@ fn keeps_alike(rt: &impl Abort, alloc: Global, bytes: &[u8], case: &Case) {
 
 // ---- a gatherer that counts
 
-/// How many values there were, a number that depends on the kinds and places of all events, and how many more events it takes
-/// before it fails for want of memory.
+/// How many values there were, a number that depends on the kinds and places of all events, how many more events it takes before it
+/// fails for want of memory, and whether it passes over records.
 #[derive(Clone, Copy, Debug, PartialEq, Eq)]
 struct Counted {
     values: u64,
     trace: u64,
     room: u32,
+    passes: bool,
 }
 
 impl Counted {
     /// No values and no events. It fails after so many events, or earlier.
-    fn failing_after(events: u32) -> Counted {
+    fn failing_after(events: u32, passes: bool) -> Counted {
         Counted {
             values: 0,
             trace: 0,
             room: events,
+            passes,
         }
     }
 
@@ -293,8 +296,32 @@ impl Gatherer for Counted {
         self.add(code, after)
     }
 
+    fn counts(&self) -> bool {
+        self.passes
+    }
+
+    fn pass(
+        &mut self,
+        bits: PlacedBits<'_>,
+        width: u32,
+        plans: &[Plan],
+        room: u64,
+    ) -> Result<PassedRun, AllocError> {
+        pass_records(bits, width, plans, room, self)
+    }
+
     fn leave(&mut self, after: u64) -> Result<(), AllocError> {
         self.add(0, after)
+    }
+}
+
+impl RunCounter for Counted {
+    ghost counted = { λ first records last. Unit {0} };
+
+    fn count(&mut self, passed: CountedRecord) -> Result<(), AllocError> {
+        self.values = self.values.saturating_add(passed.count);
+        self.add(passed.id, passed.first)?;
+        self.add(passed.code, passed.after)
     }
 }
 
@@ -338,7 +365,7 @@ fn a_fold_asks_as_it_did(rt: HostRuntime) {
 
 /// How many values an input has, or 20 if it is refused.
 fn values_in(alloc: Global, bytes: &[u8]) -> u64 {
-    let none = Counted::failing_after(u32::MAX);
+    let none = Counted::failing_after(u32::MAX, false);
     match fold(alloc, SliceSource::new(bytes), Limits::usual(), none) {
         (Ok(folded), _) => folded.gatherer.values,
         (Err(_), _) => 20,
