@@ -17,7 +17,7 @@ mod asking_tests;
 
 use crate::gatherer::Gatherer;
 use crate::machine::{Machine, Step};
-use crate::running::{buffered_from, count_records, gather_records, has_margin, loaded_at};
+use crate::running::{buffered_from, count_records, gather_records, loaded_at};
 use crate::with_first::WithFirst;
 use bit_abbrev::Planning;
 use bit_fields::{BitReader, BufferedParts, Fault, FieldWidth, Head, Limits, PlacedBits, Source};
@@ -101,7 +101,7 @@ fn gather_innermost<G: Gatherer>(
         return Ok(first);
     }
     let used = &mut machine.used;
-    if gatherer.counts() && has_margin(parts, first) {
+    if gatherer.counts() {
         return count_records(parts, first, loaded, frame, limits, used, gatherer, values);
     }
     let buffered = buffered_from(parts, first, loaded);

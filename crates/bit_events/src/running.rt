@@ -355,18 +355,6 @@ pub(crate) fn buffered_from<'a>(parts: BufferedParts<'a>, first: u64, loaded: u6
     buffered
 }
 
-/// Whether enough bits are there as bytes from a bit on for a record to be passed over.
-#[inline(always)]
-pub(crate) fn has_margin(parts: BufferedParts<'_>, first: u64) -> bool
-    requires lawful { AreParts parts }
-    requires most { first ≤ (bits_of_parts parts).position + length (bits_of_parts parts).bits }
-{
-    match PlacedBits::new(parts, first) {
-        Some(bits) => bits.has(MARGIN),
-        None => false,
-    }
-}
-
 /// Gathers records of a block that is no BLOCKINFO block from a bit on, as long as they are completely buffered, and returns the bit
 /// after the last one. The gatherer needs only the number of their values. Whether the last ones are read depends on where the window
 /// ends: so it ends at `loaded`, as that of an exact reader.

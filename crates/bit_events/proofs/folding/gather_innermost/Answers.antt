@@ -14,8 +14,8 @@ returns-in_default-clause-gathers g c = up_to_none g.G.Gatherer.gathered c.args.
 pub returns-then-is_some-clause-gathers : goal.returns-then-is_some-clause-gathers
 returns-then-is_some-clause-gathers g c = up_to_none g.G.Gatherer.gathered c.args.limits.now c.args.machine.now (beyond (bits_of_parts c.args.parts) (c.args.first - c.args.parts.position)) c.args.gatherer.now c.args.first (omega (arith, c.requires.least)) c.requires.aligned
 
-pub returns-then-has_margin-clause-gathers : goal.returns-then-has_margin-clause-gathers
-returns-then-has_margin-clause-gathers g c =
+pub returns-then-counts-clause-gathers : goal.returns-then-counts-clause-gathers
+returns-then-counts-clause-gathers g c =
     let m = c.args.machine.now in
     let from = beyond (bits_of_parts c.args.parts) (c.args.first - c.args.parts.position) in
     let f = c.in-Some.frame.now in
@@ -28,8 +28,8 @@ returns-then-has_margin-clause-gathers g c =
     (λ after run. on_run g.G.Gatherer.gathered c.args.limits.now f m (frames_onto (take k m.frames.items) []) from c.args.gatherer.now used after h split run)
     c.count_records.ensures.gathers
 
-pub returns-then-has_margin-clause-stops : goal.returns-then-has_margin-clause-stops
-returns-then-has_margin-clause-stops g c =
+pub returns-then-counts-clause-stops : goal.returns-then-counts-clause-stops
+returns-then-counts-clause-stops g c =
     let m = c.args.machine.now in
     let from = beyond (bits_of_parts c.args.parts) (c.args.first - c.args.parts.position) in
     let f = c.in-Some.frame.now in
