@@ -35,7 +35,7 @@ use Rattle.bit_events.proofs.Folds.{before_none, first_after, first_event, first
 use Rattle.bit_events.proofs.Runs.{advanced_both, passed_both, passed_forward}
 use Rattle.bit_events.proofs.Stepping.{innermost, frames-pop, length-frames, open_took, end_took, top_opens, nested_opens, in_then, after_end, after_nested}
 
-none_some : {A : Type 0} (o : Option A) → is_some o ≡ false → o ≡ None
+pub none_some : {A : Type 0} (o : Option A) → is_some o ≡ false → o ≡ None
 none_some None e = refl
 none_some (Some x) e = absurd cc
 

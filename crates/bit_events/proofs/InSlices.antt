@@ -37,7 +37,7 @@ seen_behind limits m n r a b event live some same forward s seen = record {
   behind = λ _. omega (arith, s.behind live, forward);
   there = there;
   sees = λ _. subst (λ (x : Reader). Sees x b) (advanced_both r (a.position - r.position) (b.position - a.position) (b.position - r.position) (omega (arith, s.behind live, forward))) (seen_took (step limits (machine_shown m)) (reader_seen r a) a (event, machine_shown n) b (s.sees live) seen).1;
-  aligned = λ _ none. absurd (omega (arith, some, none, ap vec_len same));
+  aligned = λ _ _ none. absurd (omega (arith, some, none, ap vec_len same));
   closed = λ e. absurd (omega (arith, some, (s.closed e).frames));
 }
   where

@@ -18,3 +18,4 @@ pub mod Standings
 mod Named
 pub mod Rest
 pub mod PassedOver
+pub mod PassedEvents

@@ -1,5 +1,5 @@
 -- The rest of an input that is read event by event, and the effect of a call for the next event.
-use Rattle.std.specs.Prelude.{◌≡◌, ℕ, ◌*◌, ◌%◌, ◌^◌, ◌<◌, ◌≤◌, List, [], ◌∷◌, Bool, if◌then◌else◌, Option, Some, None, IsSome, Result, Ok, Err}
+use Rattle.std.specs.Prelude.{◌≡◌, ℕ, ◌*◌, ◌%◌, ◌^◌, ◌<◌, ◌≤◌, List, [], ◌∷◌, ◌++◌, length, Bool, true, false, if◌then◌else◌, Option, Some, None, IsSome, Result, Ok, Err}
 use Rattle.bit_grammar.specs.declared.reason.Reason.TheVariants.{TooLong}
 use Rattle.bit_grammar.specs.Grammar as grammar
 use Rattle.bit_grammar.specs.Grammar.{at}
@@ -12,6 +12,7 @@ use Rattle.bit_fields.specs.declared.fault.Fault.TheVariants.{Refused, Read, Wri
 use Rattle.bit_fields.specs.Devices.{Incoming, Spends, Fails, known_bytes}
 use Rattle.bit_fields.specs.Reader.{Reader, Extent, is_cut, within}
 use Rattle.bit_fields.specs.Ending.{FillsStream, verdict}
+use Rattle.bit_events.specs.Gathering.{open_behind}
 
 -- ---- how a stream ends, by how far it goes
 
@@ -145,3 +146,31 @@ abbrev pub Goes : Coming → Result (Option Event) Fault → Coming → Type 0
 Goes old (Ok (Some event)) new = GivesEvent old event new
 Goes old (Ok None) new = EndsEvents old new
 Goes old (Err fault) new = BreaksOff old fault new
+
+-- ---- events that are passed over
+
+-- so many events were passed over
+pub record PassesEvents (count : ℕ) (old new : Coming) : Type 0 where
+  pub events : List Event
+  pub many : length events ≡ count
+  pub pays : Pays old new
+  pub head : new.head ≡ old.head
+  pub depth : new.depth ≡ open_behind events old.depth
+  pub told : TellsComing old → old.told ≡ (events ++ new.told.0, new.told.1)
+
+-- the effect of passing over the next event
+abbrev pub PassesNext : Coming → Result Bool Fault → Coming → Type 0
+PassesNext old (Ok true) new = PassesEvents 1 old new × (new.stage ≡ going)
+PassesNext old (Ok false) new = PassesEvents 0 old new × (new.stage ≡ over)
+PassesNext old (Err fault) new = BreaksOff old fault new
+
+-- the events that were left are dropped, as if the input were accepted before them
+pub record DropsEvents (old new : Coming) : Type 0 where
+  pub stage : new.stage ≡ over
+  pub head : new.head ≡ old.head
+  pub told : new.told ≡ ([], accepted new.position)
+  pub depth : new.depth ≡ 0
+  pub deepest : new.deepest ≡ old.deepest
+  pub position : new.position ≡ old.position
+  pub incoming : new.incoming ≡ old.incoming
+  pub budget : new.budget ≡ old.budget

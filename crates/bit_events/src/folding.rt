@@ -11,13 +11,13 @@ ghost use Rattle.bit_events.specs.Reading.{ReadsWhole};
 ghost use Rattle.bit_events.specs.Runs.{GathersUpTo, StopsOn};
 
 #[cfg(test)]
-mod asking_inputs;
+pub(crate) mod asking_inputs;
 #[cfg(test)]
 mod asking_tests;
 
 use crate::gatherer::Gatherer;
 use crate::machine::{Machine, Step};
-use crate::running::{buffered_from, count_records, gather_records, loaded_at};
+use crate::running::{gather_by_turns, loaded_at};
 use crate::with_first::WithFirst;
 use bit_abbrev::Planning;
 use bit_fields::{BitReader, BufferedParts, Fault, FieldWidth, Head, Limits, PlacedBits, Source};
@@ -101,11 +101,7 @@ fn gather_innermost<G: Gatherer>(
         return Ok(first);
     }
     let used = &mut machine.used;
-    if gatherer.counts() {
-        return count_records(parts, first, loaded, frame, limits, used, gatherer, values);
-    }
-    let buffered = buffered_from(parts, first, loaded);
-    gather_records(buffered, frame, limits, used, gatherer, values)
+    gather_by_turns(parts, first, loaded, frame, limits, used, gatherer, values)
 }
 
 /// How many bits must be buffered for the beginning or the end of a block to be read from the buffer: more than 64 after the longest

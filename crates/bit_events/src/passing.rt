@@ -1,6 +1,6 @@
 //! Records that are passed over, since only the number of their values is wanted.
 
-ghost use Rattle.std.specs.Prelude.{◌≡◌, ◌+◌, ◌≤◌, ℕ, List, [], IfSome, IfOk, OnOk, length};
+ghost use Rattle.std.specs.Prelude.{◌≡◌, ◌+◌, ◌≤◌, true, false, ℕ, List, [], IfSome, IfOk, length};
 ghost use Rattle.bit_grammar.specs.declared.op.Op.{Op};
 ghost use Rattle.bit_grammar.specs.Blocks.{entry};
 ghost use Rattle.bit_grammar.specs.Marks.{RecordMark};
@@ -55,11 +55,12 @@ pub trait RunCounter {
     // Whether counting these records, in order, turns the one into the other.
     ghost counted: { Self → List RecordMark → Self → Type 0 };
 
-    /// Counts a record.
-    fn count(&mut self, passed: CountedRecord) -> Result<(), AllocError>
+    /// Counts a record, or returns `false` and leaves it: then it is not passed over.
+    fn count(&mut self, passed: CountedRecord) -> Result<bool, AllocError>
         requires { passed.first ≤ passed.after }
-        ensures { OnOk result ((list : List ℕ) → length list ≡ passed.count
-            → CountsOne counted self.old (mark_of passed list) self.new) };
+        ensures counts { IfOk result (λ counts. counts ≡ true → (list : List ℕ)
+            → length list ≡ passed.count → CountsOne counted self.old (mark_of passed list) self.new) }
+        ensures leaves { IfOk result (λ counts. counts ≡ false → self.new ≡ self.old) };
 }
 
 /// Counts nothing.
@@ -70,8 +71,8 @@ impl RunCounter for Uncounted {
     ghost counted = { λ _ _ _. Unit {0} };
 
     #[inline(always)]
-    fn count(&mut self, _passed: CountedRecord) -> Result<(), AllocError> {
-        Ok(())
+    fn count(&mut self, _passed: CountedRecord) -> Result<bool, AllocError> {
+        Ok(true)
     }
 }
 
@@ -126,13 +127,20 @@ pub fn pass_records<C: RunCounter>(
             break;
         }
         let after = bits.after(u64::from(width) + passed.len);
-        counter.count(CountedRecord {
+        let counts = counter.count(CountedRecord {
             id,
             code: passed.code,
             count: passed.count,
             first: bits.position(),
             after: after.position(),
         })?;
+        if !counts {
+            return Ok(PassedRun {
+                after: bits.position(),
+                room,
+                is_over,
+            });
+        }
         room -= passed.count;
         bits = after;
     }

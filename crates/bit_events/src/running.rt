@@ -212,6 +212,10 @@ pub(crate) fn gather_records<G: Gatherer>(
         room = room.saturating_sub(count);
         gatherer.record(id, code, values, first, after)?;
         first = after;
+        if gatherer.counts() {
+            *used = spent;
+            return Ok(first);
+        }
     }
 }
 
@@ -265,7 +269,7 @@ fn gather_odd<G: Gatherer>(
                 is_over: false,
             });
         }
-        let Ok(code) = read_entry::<G, Buffered<'_>, Definitions<'_>, G::Values>(
+        let Ok(code) = read_entry::<(G,), Buffered<'_>, Definitions<'_>, G::Values>(
             &mut buffered,
             &definitions,
             room,
@@ -395,8 +399,79 @@ pub(crate) fn count_records<G: Gatherer>(
         let buffered = buffered_from(parts, first, window);
         let run = gather_odd(buffered, frame, limits, used, gatherer, values)?;
         first = run.after;
-        if run.is_over {
+        if run.is_over || !gatherer.counts() {
             return Ok(first);
         }
+    }
+}
+
+/// Gathers such records as long as the gatherer needs their values, or as long as it does not.
+#[inline(always)]
+fn gather_turn<G: Gatherer>(
+    parts: BufferedParts<'_>,
+    start: u64,
+    loaded: u64,
+    frame: &Frame,
+    limits: &Limits,
+    used: &mut u64,
+    gatherer: &mut G,
+    values: &mut G::Values,
+) -> Result<u64, AllocError>
+    requires lawful { AreParts parts }
+    requires least { (bits_of_parts parts).position ≤ start }
+    requires there { start - (bits_of_parts parts).position ≤ length (bits_of_parts parts).bits }
+    requires took { TookSome G.Values.took values.old }
+    requires plain { frame.now.info ≡ None }
+    ensures took { TookSome G.Values.took values.new }
+    ensures gathers { IfOk result (λ after. GathersRun G.gathered limits.now frame.now used.old
+        (beyond (bits_of_parts parts.entry) (start - (bits_of_parts parts.entry).position))
+        gatherer.old used.new after gatherer.new) }
+    ensures stops { OnErr result (StopsRun G.gathered G.fails limits.now frame.now used.old
+        (beyond (bits_of_parts parts.entry) (start - (bits_of_parts parts.entry).position))
+        gatherer.old gatherer.new) }
+{
+    if gatherer.counts() {
+        return count_records(parts, start, loaded, frame, limits, used, gatherer, values);
+    }
+    let buffered = buffered_from(parts, start, loaded);
+    gather_records(buffered, frame, limits, used, gatherer, values)
+}
+
+/// Gathers all such records. Where the gatherer begins or ends to need their values, it goes on: an exact reader takes these bits when
+/// all of them were gathered, and so asks its source where it would if the gatherer needed the values of all.
+#[inline(always)]
+pub(crate) fn gather_by_turns<G: Gatherer>(
+    parts: BufferedParts<'_>,
+    start: u64,
+    loaded: u64,
+    frame: &Frame,
+    limits: &Limits,
+    used: &mut u64,
+    gatherer: &mut G,
+    values: &mut G::Values,
+) -> Result<u64, AllocError>
+    requires lawful { AreParts parts }
+    requires least { (bits_of_parts parts).position ≤ start }
+    requires there { start - (bits_of_parts parts).position ≤ length (bits_of_parts parts).bits }
+    requires took { TookSome G.Values.took values.old }
+    requires plain { frame.now.info ≡ None }
+    ensures took { TookSome G.Values.took values.new }
+    ensures gathers { IfOk result (λ after. GathersRun G.gathered limits.now frame.now used.old
+        (beyond (bits_of_parts parts.entry) (start - (bits_of_parts parts.entry).position))
+        gatherer.old used.new after gatherer.new) }
+    ensures stops { OnErr result (StopsRun G.gathered G.fails limits.now frame.now used.old
+        (beyond (bits_of_parts parts.entry) (start - (bits_of_parts parts.entry).position))
+        gatherer.old gatherer.new) }
+{
+    let mut first = start;
+    let mut window = loaded;
+    loop {
+        let counts = gatherer.counts();
+        let after = gather_turn(parts, first, window, frame, limits, used, gatherer, values)?;
+        if after == first || gatherer.counts() == counts {
+            return Ok(after);
+        }
+        first = after;
+        window = loaded_at(first, window);
     }
 }

@@ -1,12 +1,12 @@
 //! The events of a slice of bytes, most of whose records are read in place.
 
-ghost use Rattle.std.specs.Prelude.{◌≡◌, ⊤, ℕ, List, [], None, IfOk, IfErr, IfSome, IfNone};
+ghost use Rattle.std.specs.Prelude.{◌≡◌, ◌<◌, ◌≤◌, ⊤, ℕ, List, [], None, IfOk, IfErr, IfSome, IfNone};
 ghost use Rattle.std.specs.Borrow.{sem, follows_so};
 ghost use mathlib.Core.Option.{none};
 ghost use mir.Syntax.{named};
 ghost use Rattle.bit_fields.specs.Opening.{head_told};
 ghost use Rattle.bit_abbrev.specs.Values.{Gains, Keeps};
-ghost use Rattle.bit_events.specs.Coming.{GivesEvent};
+ghost use Rattle.bit_events.specs.Coming.{Coming, GivesEvent, PassesEvents, PassesNext, DropsEvents, BreaksOff, over};
 ghost use Rattle.bit_events.specs.EventView.{lent, shown_if_any};
 ghost use Rattle.bit_events.specs.Events.{Finds, Lends, Begun, DeclinesEvents};
 ghost use Rattle.bit_events.specs.MachineView.{record_of, TookSome};
@@ -15,13 +15,36 @@ ghost use Rattle.bit_events.specs.Runs.{AddsBehind};
 use crate::event::RecordHead;
 use crate::finder::PackedEvent;
 use crate::machine::{Machine, Step};
+use crate::passing::{CountedRecord, RunCounter, pass_records};
 use crate::with_first::WithFirst;
 use bit_abbrev::Planning;
 use bit_fields::{
-    BitReader, Buffered, Fault, Head, Limits, PackedValues, SliceSource, Source, ValueTaker,
+    BitReader, Buffered, Fault, Head, Limits, PackedValues, PlacedBits, SliceSource, Source,
+    ValueCount, ValueTaker,
 };
-use std::alloc::Global;
+use std::alloc::{AllocError, Global};
 use std::marker::Model;
+
+/// Counts records down.
+#[derive(Drop)]
+struct Passing {
+    left: u64,
+}
+
+impl RunCounter for Passing {
+    ghost use Rattle.std.specs.Prelude.{◌≡◌, ◌+◌, length};
+
+    ghost counted = { λ first records last. first.left ≡ length records + last.left };
+
+    #[inline(always)]
+    fn count(&mut self, _passed: CountedRecord) -> Result<bool, AllocError> {
+        if self.left == 0 {
+            return Ok(false);
+        }
+        self.left -= 1;
+        Ok(true)
+    }
+}
 
 /// The events of a slice of bytes, one at a time. `record` reads a complete record, as most are, in place and gives its values to a
 /// value sink. `next` finds every event, such records too, by a machine as `Events` does.
@@ -142,7 +165,92 @@ impl<'a> SliceEvents<'a> {
         Some(read)
     }
 
+    /// Passes over the next records of the innermost block by plans, at most `most`, and returns how many they are.
+    #[inline(always)]
+    fn pass_records(&mut self, most: u64) -> u64
+        ensures few { result ≤ most }
+        ensures passes { PassesEvents result self.old self.new }
+        ensures stage { self.new.stage ≡ self.old.stage }
+    {
+        let Some(frame) = self.machine.frames.last() else {
+            return 0;
+        };
+        if frame.info.is_some() || !self.reader.is_live() {
+            return 0;
+        }
+        let parts = self.reader.parts_in_slice();
+        let mut buffered = Buffered::new(parts);
+        let start = buffered.position();
+        let first = self.buffered.position();
+        if buffered.len() < first - start {
+            return 0;
+        }
+        let Some(bits) = PlacedBits::new(parts, first) else {
+            return 0;
+        };
+        let room = self.limits.values().saturating_sub(self.machine.used);
+        let mut passing = Passing { left: most };
+        let width = u32::from(frame.head.width);
+        let plans = frame.definitions.plans();
+        let Ok(run) = pass_records(bits, width, plans, room, &mut passing) else {
+            return 0;
+        };
+        if passing.left == most {
+            return 0;
+        }
+        buffered.skip(run.after - start);
+        self.machine.used += room - run.room;
+        forget(&mut self.found, &mut self.values);
+        self.buffered = buffered;
+        most - passing.left
+    }
+
+    /// Passes over the next event, if there is one, and returns whether there was.
+    fn pass_one(&mut self) -> Result<bool, Fault>
+        ensures { PassesNext self.old result self.new }
+    {
+        if let Some(_read) = self.record(&mut ValueCount::new()) {
+            return Ok(true);
+        }
+        self.find()?;
+        Ok(!self.over)
+    }
+
+    /// Passes over the next events, at most `most`, and returns how many they are: fewer only if the whole input is accepted. It fails
+    /// as `next` does.
+    pub fn pass(&mut self, most: u64) -> Result<u64, Fault>
+        ensures few { IfOk result (λ count. count ≤ most) }
+        ensures passes { IfOk result (λ count. PassesEvents count self.old self.new) }
+        ensures all { IfOk result (λ count. count < most → self.new.stage ≡ over) }
+        ensures fails { IfErr result (λ fault. (count : ℕ) × (mid : Coming)
+            × PassesEvents count self.old mid × BreaksOff mid fault self.new) }
+    {
+        // Records are passed over by plans of the definitions that are found from here on.
+        self.machine.planning = Planning::First;
+        let mut left = most;
+        while left > 0 {
+            left -= self.pass_records(left);
+            if left > 0 {
+                if !self.pass_one()? {
+                    return Ok(most - left);
+                }
+                left -= 1;
+            }
+        }
+        Ok(most - left)
+    }
+
+    /// Drops all events that are left. They are not read, and the input counts as accepted.
+    pub fn drop_rest(&mut self)
+        ensures { DropsEvents self.old self.new }
+    {
+        self.machine.drop_blocks();
+        forget(&mut self.found, &mut self.values);
+        self.over = true;
+    }
+
     /// Finds the next event and keeps it.
+    #[inline(always)]
     fn find(&mut self) -> Result<(), Fault>
         ensures { Finds self.old result self.new }
     {

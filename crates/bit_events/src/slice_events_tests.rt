@@ -3,6 +3,7 @@
 use crate::events_tests::{
     AT_USE, EVENTS, MIXED, MIXED_ENDS, MIXED_FRONT, agrees, bytes_of, told_of_fault,
 };
+use crate::folding::asking_inputs::{made, wide};
 use crate::{Event, PackedEvent, RecordHead, SliceEvents};
 use bit_fields::{ExpectedValues, Limits, NotTaken, PackedValues, SliceSource, ValueTaker};
 use std::alloc::{AllocError, Global};
@@ -285,4 +286,141 @@ fn records_beside_others(rt: HostRuntime) {
             "{others:?}: {count}"
         );
     }
+}
+
+// ---- events that are passed over
+
+/// More events than an input here has.
+const MOST_EVENTS: u64 = 10_000;
+
+/// The events that are left, each after the bit at which it begins, and their end or fault.
+fn rest_told(alloc: Global, mut events: SliceEvents<'_>) -> Result<String, AllocError> {
+    let mut text = String::new(alloc);
+    for _ in 0..MOST_EVENTS {
+        write!(text, "{} ", events.position()).map_err(|_| AllocError)?;
+        if !show_next(alloc, &mut events, &mut text)? {
+            break;
+        }
+    }
+    Ok(text)
+}
+
+/// How many of at most so many events are passed over, and then the rest; or the fault.
+fn passed(
+    alloc: Global,
+    bytes: &[u8],
+    limits: Limits,
+    parts: &[u64],
+) -> Result<(u64, String), AllocError> {
+    let mut events = match SliceEvents::start(alloc, SliceSource::new(bytes), limits) {
+        Ok(events) => events,
+        Err((fault, _)) => return Ok((0, told_of_fault(alloc, fault)?)),
+    };
+    let mut count: u64 = 0;
+    for most in parts {
+        match events.pass(*most) {
+            Ok(more) => count = count.saturating_add(more),
+            Err(fault) => return Ok((count, told_of_fault(alloc, fault)?)),
+        }
+    }
+    Ok((count, rest_told(alloc, events)?))
+}
+
+/// The same, if each event is found.
+fn found(
+    alloc: Global,
+    bytes: &[u8],
+    limits: Limits,
+    most: u64,
+) -> Result<(u64, String), AllocError> {
+    let mut events = match SliceEvents::start(alloc, SliceSource::new(bytes), limits) {
+        Ok(events) => events,
+        Err((fault, _)) => return Ok((0, told_of_fault(alloc, fault)?)),
+    };
+    for count in 0..most {
+        match events.next() {
+            Ok(Some(_)) => {}
+            Ok(None) => return Ok((count, rest_told(alloc, events)?)),
+            Err(fault) => return Ok((0, told_of_fault(alloc, fault)?)),
+        }
+    }
+    Ok((most, rest_told(alloc, events)?))
+}
+
+/// Checks that events are passed over as they are found, at once and in two parts.
+fn passes_alike(rt: &impl Abort, alloc: Global, bytes: &[u8], limits: Limits, most: u64) {
+    let wanted = found(alloc, bytes, limits, most).expect(rt, "memory");
+    let at_once = passed(alloc, bytes, limits, &[most]).expect(rt, "memory");
+    assert!(rt; at_once == wanted, "{most}: {at_once:?}, not {wanted:?}");
+    let parts = [most / 3, most - most / 3];
+    let in_parts = passed(alloc, bytes, limits, &parts).expect(rt, "memory");
+    assert!(rt;
+        in_parts.1 == wanted.1,
+        "{most}: {in_parts:?}, not {wanted:?}"
+    );
+}
+
+#[test]
+fn events_are_passed_over(rt: HostRuntime) {
+    for (limit, text, _) in &EVENTS {
+        let bytes = bytes_of(rt.alloc(), text).expect(&rt, "memory");
+        let limits = Limits::new(*limit, 64, 1000).expect(&rt, "limits within their caps");
+        for most in 0..12 {
+            passes_alike(&rt, rt.alloc(), &bytes, limits, most);
+        }
+    }
+    for (values, _) in &MIXED_ENDS {
+        let bytes = bytes_of(rt.alloc(), MIXED).expect(&rt, "memory");
+        let limits = Limits::new(1000, 64, *values).expect(&rt, "limits within their caps");
+        for most in 0..12 {
+            passes_alike(&rt, rt.alloc(), &bytes, limits, most);
+        }
+    }
+}
+
+#[test]
+fn made_events_are_passed_over(rt: HostRuntime) {
+    for seed in 0..40 {
+        let bytes = made(rt.alloc(), seed).expect(&rt, "memory");
+        let defined = wide(rt.alloc(), seed, 40).expect(&rt, "memory");
+        let values = if seed % 4 == 0 { 20 } else { 1000 };
+        let limits = Limits::new(100_000, 64, values).expect(&rt, "limits within their caps");
+        for most in [0, 1, 2, 3, 5, 9, 20, 33, 60, 500] {
+            passes_alike(&rt, rt.alloc(), &bytes, limits, most);
+            passes_alike(&rt, rt.alloc(), &defined, limits, most);
+        }
+    }
+}
+
+/// Passes over so many events of an input, and drops the rest. The next one, twice.
+fn dropped(alloc: Global, bytes: &[u8], most: u64) -> Result<String, AllocError> {
+    let start = SliceEvents::start(alloc, SliceSource::new(bytes), Limits::usual());
+    let Ok(mut events) = start else {
+        return Err(AllocError);
+    };
+    let mut text = String::new(alloc);
+    if let Err(fault) = events.pass(most) {
+        write!(text, "{fault} ").map_err(|_| AllocError)?;
+    }
+    let place = events.position();
+    events.drop_rest();
+    for _ in 0..2 {
+        show_next(alloc, &mut events, &mut text)?;
+    }
+    if events.position() != place {
+        text.push_str("moved")?;
+    }
+    Ok(text)
+}
+
+#[test]
+fn the_rest_is_dropped(rt: HostRuntime) {
+    let bytes = bytes_of(rt.alloc(), MIXED).expect(&rt, "memory");
+    for most in 0..8 {
+        agrees(&rt, dropped(rt.alloc(), &bytes, most), "None None ", MIXED);
+    }
+    // A fault before it stays said, and the input then counts as accepted too.
+    let cut = &bytes[..bytes.len().saturating_sub(4)];
+    let told = dropped(rt.alloc(), cut, 100).expect(&rt, "memory");
+    assert!(rt; told.as_str().ends_with(" None None "), "{told}");
 }

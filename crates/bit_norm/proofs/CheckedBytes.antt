@@ -12,7 +12,7 @@ use Rattle.bit_grammar.specs.Grammar.{at}
 use Rattle.bit_grammar.proofs.WholeInputs.Inputs.{one_tree}
 use Rattle.bit_fields.specs.declared.fault.Fault.{Fault}
 use Rattle.bit_fields.specs.declared.fault.Fault.TheVariants.{Refused, Read, Write, Memory, OutputTooLong, Failed}
-use Rattle.bit_fields.specs.Devices.{CalledFrom, keeping, calling, SaysOf, Incoming, Spends, Fails, known_bytes}
+use Rattle.bit_fields.specs.Devices.{CalledFrom, keeping, calling, SaysOf, Incoming, Begins, Spends, Fails, known_bytes}
 use Rattle.bit_fields.proofs.Keeping.{says_first, spared}
 use Rattle.bit_events.specs.Reading.{Spent}
 use Rattle.bit_norm.proofs.AlikeBytes.{spends_taken}
@@ -22,7 +22,9 @@ use Rattle.bit_norm.specs.declared.comparing.Which.TheVariants.{First, Second}
 use Rattle.bit_norm.specs.declared.comparing.SameFault.{SameFault}
 use Rattle.bit_norm.specs.Whole.{ReadsTree, source_of}
 use Rattle.bit_norm.specs.InStep.{ReadBeside, NotRead, ComparesWith}
+use Rattle.bit_norm.specs.InFront.{ComparesBehind}
 use Rattle.bit_norm.specs.declared.again.Slices.{Slices}
+use Rattle.std.proofs.Transfers.{starts_with_of_eq}
 use Rattle.std.proofs.lemmas.List.{length-take-le}
 use Rattle.bit_norm.specs.Rejoined.{calls_with, has_some, is_more, rejoined_of, unknown, Takes, TakesFront, TakesSame, TakesEnd, OfSecond, Confirms, ComparesChecked}
 
@@ -218,30 +220,31 @@ module _ (setting : Setting) (limits : Limits) (first h k : List ℕ) (calls o d
   second_tree First fault none = subst (λ (f : Fault). ReadsTree setting limits b (Err f) j) (sym none.0) (same_spent none.1)
   second_tree Second fault none = tree_again fault none
 
-  pub checked_again : (judged : Bool) (answer result : Result (Option Difference) SameFault) → ComparesWith setting limits first (rejoined_of h o 0 0 i) answer (rejoined_of k d q g j) → OfSecond answer result → ComparesChecked judged setting limits first b result j
-  checked_again judged (Ok found) result read is = checked_found judged setting limits first b j found result (
+  pub checked_again : (judged : Bool) (equal : ℕ) (answer result : Result (Option Difference) SameFault) → Begins b.to_come (take equal first) → ComparesBehind setting limits first equal (rejoined_of h o 0 0 i) answer (rejoined_of k d q g j) → OfSecond answer result → ComparesChecked judged setting limits first b result j
+  checked_again judged equal (Ok found) result begins read is = checked_found judged setting limits first b j found result (
     spent_again read.0,
     λ known.
         let same = same_bytes b.to_come i.to_come h took.bytes known in
-        let told = read.1 (subst IsSome (sym same) known) in
+        let beside = read.1 (subst (λ (o : Option (List ℕ)). Begins o (take equal first)) (sym same) begins) in
+        let told = beside.1 (subst IsSome (sym same) known) in
         (told.0, subst (λ (o : Option (List ℕ)). SpellsInput limits (known_bytes o) told.0) same told.1, nothing_behind k j.to_come told.2, told.3),
   ) is
-  checked_again judged (Err e) result none is = checked_fault judged setting limits first b j e.fault result (second_tree e.which e.fault none) is
+  checked_again judged equal (Err e) result begins none is = checked_fault judged setting limits first b j e.fault result (second_tree e.which e.fault none) is
 
-pub checked_front : (judged : Bool) (setting : Setting) (limits : Limits) (first next : List ℕ) (t : Slices) (more : ℕ) (b i r j u : Incoming) (k : List ℕ) (o d q g : ℕ) (answer result : Result (Option Difference) SameFault) → Capped limits → TakesFront limits first next b t more i
-    → o ≡ t.count + min 1 (length (take more next)) → r ≡ rejoined_of (take t.bytes first ++ take more next) o 0 0 i → u ≡ rejoined_of k d q g j → ComparesWith setting limits first r answer u → OfSecond answer result → ComparesChecked judged setting limits first b result j
-checked_front judged setting limits first next t more b i r j u k o d q g answer result capped front owed begun ended read is =
+pub checked_front : (judged : Bool) (setting : Setting) (limits : Limits) (first next : List ℕ) (t : Slices) (more equal : ℕ) (b i r j u : Incoming) (k : List ℕ) (o d q g : ℕ) (answer result : Result (Option Difference) SameFault) → Capped limits → TakesFront limits first next b t more equal i
+    → o ≡ t.count + min 1 (length (take more next)) → r ≡ rejoined_of (take t.bytes first ++ take more next) o 0 0 i → u ≡ rejoined_of k d q g j → ComparesBehind setting limits first (t.bytes + equal) r answer u → OfSecond answer result → ComparesChecked judged setting limits first b result j
+checked_front judged setting limits first next t more equal b i r j u k o d q g answer result capped front owed begun ended read is =
     let h = take t.bytes first ++ take more next in
     let calls = t.count + min 1 more in
     let held : length h ≡ length (take t.bytes first) + length (take more next) = length-append (take t.bytes first) (take more next) in
-    let bytes : length (take t.bytes first) ≡ t.bytes = length-take-le t.bytes first front.few in
+    let bytes : length (take t.bytes first) ≡ t.bytes = length-take-le t.bytes first (omega (arith, front.few)) in
     let others : length (take more next) ≡ more = length-take-le more next front.there in
     let short : length h ≤ limits.bytes + 1 = omega (arith, held, bytes, others, front.within, front.one) in
     let small : limits.bytes + 1 < 2 ^ 64 - 1 = omega (arith, capped.bytes) in
     let few : calls ≤ limits.bytes + 1 = omega (arith, t.few, front.within) in
     let enough : calls ≤ o = omega (arith, owed, others) in
-    let after = subst (λ (v : Incoming). ComparesWith setting limits first (rejoined_of h o 0 0 i) answer v) ended (subst (λ (v : Incoming). ComparesWith setting limits first v answer u) begun read) in
-    checked_again setting limits first h k calls o d q g b i j small front.takes enough few short judged answer result after is
+    let after = subst (λ (v : Incoming). ComparesBehind setting limits first (t.bytes + equal) (rejoined_of h o 0 0 i) answer v) ended (subst (λ (v : Incoming). ComparesBehind setting limits first (t.bytes + equal) v answer u) begun read) in
+    checked_again setting limits first h k calls o d q g b i j small front.takes enough few short judged (t.bytes + equal) answer result front.same after is
 
 -- ---- the input ended
 
@@ -282,10 +285,15 @@ module _ (setting : Setting) (limits : Limits) (first xs : List ℕ) (calls : �
   ) is
   ended_checked judged (Err e) result none is = checked_fault judged setting limits first b j e.fault result (ended_second e.which e.fault none) is
 
+-- the bytes are the same as said
+compared_behind : (setting : Setting) (limits : Limits) (bytes : List ℕ) (equal : ℕ) (j later : Incoming) (answer : Result (Option Difference) SameFault) → ComparesBehind setting limits bytes equal j answer later → Begins j.to_come (take equal bytes) → ComparesWith setting limits bytes j answer later
+compared_behind setting limits bytes equal j later (Ok found) read begins = read.1 begins
+compared_behind setting limits bytes equal j later (Err e) read begins = read
+
 pub checked_ended : (judged : Bool) (setting : Setting) (limits : Limits) (first : List ℕ) (t : Slices) (b j u later : Incoming) (answer result : Result (Option Difference) SameFault) → Capped limits → TakesEnd limits first b t j → u ≡ source_of (take t.bytes first) → later.failures ≡ 0
-    → ComparesWith setting limits first u answer later → OfSecond answer result → ComparesChecked judged setting limits first b result j
+    → ComparesBehind setting limits first t.bytes u answer later → OfSecond answer result → ComparesChecked judged setting limits first b result j
 checked_ended judged setting limits first t b j u later answer result capped ended begun never read is =
     let small : limits.bytes + 1 < 2 ^ 64 - 1 = omega (arith, capped.bytes) in
     let each : t.count + 1 ≤ limits.bytes + 1 = omega (arith, t.few, ended.within) in
     let few : length (take t.bytes first) ≤ limits.bytes + 1 = omega (arith, length-take t.bytes first, ended.within) in
-    ended_checked setting limits first (take t.bytes first) (t.count + 1) b j later small ended.takes ended.end each few never judged answer result (subst (λ (v : Incoming). ComparesWith setting limits first v answer later) begun read) is
+    ended_checked setting limits first (take t.bytes first) (t.count + 1) b j later small ended.takes ended.end each few never judged answer result (compared_behind setting limits first t.bytes (source_of (take t.bytes first)) later answer (subst (λ (v : Incoming). ComparesBehind setting limits first t.bytes v answer later) begun read) (starts_with_of_eq (take t.bytes first) (take t.bytes first) refl)) is

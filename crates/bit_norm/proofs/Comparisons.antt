@@ -9,7 +9,7 @@ use Rattle.bit_grammar.specs.Marks.{no_marks}
 use Rattle.bit_grammar.specs.Blocks.{Limits}
 use Rattle.bit_grammar.specs.Input.{SpellsInput, tree_of}
 use Rattle.bit_grammar.specs.Terms.{Head, Marked}
-use Rattle.bit_grammar.specs.Machine.{flat, accepted, Told}
+use Rattle.bit_grammar.specs.Machine.{Event, flat, accepted, Told}
 use Rattle.bit_grammar.specs.Grammar as grammar
 use Rattle.bit_grammar.specs.Normal.{Capped}
 use Rattle.bit_grammar.specs.Outlook.{outlook}
@@ -19,6 +19,8 @@ use Rattle.bit_events.specs.Reading.{Spent, ReadsWhole}
 use Rattle.bit_tree.specs.Reading.{HasFit}
 use Rattle.bit_grammar.proofs.NormalForms.Settings.{fit_of_setting}
 use Rattle.bit_grammar.proofs.Events.Telling.{told_if_spelled}
+use Rattle.std.specs.Io.{StartsWith}
+use Rattle.bit_fields.specs.Devices as devices
 use Rattle.bit_fields.specs.Devices.{Incoming, keeping, calling, known_bytes}
 use Rattle.bit_fields.specs.Front.{calls_of, front_of}
 use Rattle.bit_fields.proofs.Keeping.{says_before, spared}
@@ -30,7 +32,9 @@ use Rattle.bit_norm.specs.declared.differences.Place.TheVariants as place
 use Rattle.bit_norm.specs.declared.in_step.Found.{Found}
 use Rattle.bit_norm.specs.Entries.{Sign, Entry, over, signs_in, Seen, Standing, at_magic, standing_shown, difference_shown, magic_standing, behind_magic, all_entries, magics_apart, apart_at, in_magic, behind, Differs}
 use Rattle.bit_norm.specs.Whole.{ReadsTree, ReadsMarked, Misreads, Compares, source_of, FindsDifference, FindsInBytes, FindsInParts, HasRest, HasRestUnless, ReachesRest, SaysNone}
-use Rattle.bit_norm.specs.InStep.{Said, entry_at, Compared, here, entries_of_first, entries_of_second, second_end, seen_of, TakesSign, Alike, ApartAt, Tallied, AnswersFound, Finishes, Concludes, other_magic, same_magic, ReadBeside, NotRead, ComparesWith}
+use Rattle.bit_norm.specs.Fronts.{SharesFront}
+use Rattle.bit_norm.specs.InStep.{Said, entry_at, Compared, here, entries_of_first, entries_of_second, second_end, seen_of, TakesSign, Alike, ApartAt, Tallied, AnswersFound, Finishes, ReadBeside, NotRead, ComparesWith}
+use Rattle.bit_norm.specs.InFront.{Comparing, Matches, FinishesAll, Concludes, other_magic, same_magic}
 use Rattle.bit_norm.specs.Rejoined.{unknown, ComparesChecked}
 use Rattle.bit_norm.specs.declared.comparing.Which.{Which}
 use Rattle.bit_norm.specs.declared.comparing.Which.TheVariants.{First, Second}
@@ -38,6 +42,7 @@ use Rattle.bit_norm.specs.declared.comparing.SameFault.{SameFault}
 use Rattle.bit_norm.proofs.Signs.{signs_in-append, same_signs, tree_is}
 use Rattle.bit_norm.proofs.EventEntries.{entries_told}
 use Rattle.bit_norm.proofs.InStep.{departs_there}
+use Rattle.bit_norm.proofs.InFront.{finished}
 use Rattle.bit_norm.proofs.Apart.{never_same}
 
 -- ---- the magics
@@ -120,21 +125,32 @@ left_is setting head c m is same told = rw (is.first, is.within, is.items, is.en
 right_is : (setting : Setting) (head : Head) (c : Compared) (m : Marked) → Begins setting head c → entries_of_second (behind_magic m.head) c (flat m.blocks []) ≡ all_entries setting m
 right_is setting head c m is = rw (is.second, is.within, is.items) (entries_told setting m.blocks (behind_magic m.head))
 
-pub concluded : (setting : Setting) (limits : Limits) (bytes : List ℕ) (begun last : Compared) (m : Marked) (second : Head) (answer : Option Difference) → outlook limits bytes ≡ Ok (begun.first.head, begun.first.told) → TellsComing begun.first → Begins setting begun.first.head begun
-    → m.head ≡ second → Tallied begun (flat m.blocks []) last → Concludes begun.first.head second last answer → (other : Marked) → SpellsInput limits bytes other → Differs setting other m answer
-concluded setting limits bytes begun last m second answer told tells begins is was (other_magic unlike d some seen) other spelled =
-    let head = (told_is limits bytes begun.first other told spelled).0 in
+-- by the end of the second
+at_last : (a b : List Entry) (p : ℕ) (begun : Compared) (events : List Event) (last : Compared) (answer : Option Difference) → TellsComing begun.first → a ≡ entries_of_first begun → b ≡ entries_of_second p begun (events ++ []) → Tallied begun events last → Finishes p last answer ⊎ (AnswersFound last answer × ((f : Found) × (last.found ≡ Some f)))
+    → AnswersLists a b answer
+at_last a b p begun events last answer tells first second was (inl finish) = rw (first, second) (by_found (entries_of_first begun) (entries_of_second p begun (events ++ [])) p last finish.0 last.found answer refl (was.tells tells) (λ none. was.alike tells none p []) (λ g some. was.apart tells g some p []) finish.1 finish.2)
+at_last a b p begun events last answer tells first second was (inr (answers, (f, found))) = rw (first, second) (found_before (entries_of_first begun) (entries_of_second p begun (events ++ [])) last last f answer found refl (λ g some. was.apart tells g some p []) answers)
+
+pub concluded : (setting : Setting) (limits : Limits) (bytes : List ℕ) (begun last : Comparing) (m : Marked) (second : Head) (answer : Option Difference) → outlook limits bytes ≡ Ok (begun.compared.first.head, begun.compared.first.told) → TellsComing begun.compared.first → Begins setting begun.compared.first.head begun.compared
+    → m.head ≡ second → Matches begun (flat m.blocks []) last → ((other : Marked) → SpellsInput limits bytes other → SharesFront begun.whole begun.passed_to (flat other.blocks []) (flat m.blocks [])) → Concludes begun.compared.first.head second last answer → (other : Marked) → SpellsInput limits bytes other → Differs setting other m answer
+concluded setting limits bytes begun last m second answer told tells begins is was shares (other_magic unlike d some seen) other spelled =
+    let head = (told_is limits bytes begun.compared.first other told spelled).0 in
     let apart_heads : difference_shown d ≡ magics_apart other.head m.head = seen ∙ ap (λ (h : Head). magics_apart h second) head ∙ ap (magics_apart other.head) (sym is) in
     subst (Differs setting other m) (sym some) (in_magic (λ e. unlike (ap (λ (h : Head). h.magic) head ∙ e ∙ ap (λ (h : Head). h.magic) is)) apart_heads)
-concluded setting limits bytes begun last m second answer told tells begins is was (same_magic same finishes) other spelled =
-    let parts = told_is limits bytes begun.first other told spelled in
+concluded setting limits bytes begun last m second answer told tells begins is was shares (same_magic same finishes) other spelled =
+    let parts = told_is limits bytes begun.compared.first other told spelled in
     let p = behind_magic m.head in
-    let finish = subst (λ (h : Head). Finishes (behind_magic h) last answer) (sym is) finishes in
-    let first = left_is setting begun.first.head begun other begins parts.0 parts.1 in
-    let all : entries_of_second p begun (flat m.blocks [] ++ []) ≡ all_entries setting m = ap (entries_of_second p begun) (append-nil (flat m.blocks [])) ∙ right_is setting begun.first.head begun m begins in
-    let lists : AnswersLists (entries_of_first begun) (entries_of_second p begun (flat m.blocks [] ++ [])) answer =
-    by_found (entries_of_first begun) (entries_of_second p begun (flat m.blocks [] ++ [])) p last finish.0 last.found answer refl (was.tells tells) (λ none. was.alike tells none p []) (λ g some. was.apart tells g some p []) finish.1 finish.2 in
-    differs setting other m answer (ap (λ (h : Head). h.magic) (sym parts.0) ∙ same ∙ ap (λ (h : Head). h.magic) (sym is)) (subst (λ (l : List Entry). AnswersLists l (all_entries setting m) answer) first (subst (λ (l : List Entry). AnswersLists (entries_of_first begun) l answer) all lists))
+    let events = flat m.blocks [] in
+    let end = finished begun last events p answer was (rw parts.1 (shares other spelled)) (subst (λ (h : Head). FinishesAll (behind_magic h) last answer) (sym is) finishes) in
+    let first = left_is setting begun.compared.first.head begun.compared other begins parts.0 parts.1 in
+    let second : entries_of_second p begun.compared (events ++ []) ≡ all_entries setting m = ap (entries_of_second p begun.compared) (append-nil events) ∙ right_is setting begun.compared.first.head begun.compared m begins in
+    differs setting other m answer (ap (λ (h : Head). h.magic) (sym parts.0) ∙ same ∙ ap (λ (h : Head). h.magic) (sym is))
+    (at_last (all_entries setting other) (all_entries setting m) p begun.compared events end.last answer tells (sym first) (sym second) end.tallied end.answers)
+
+-- the bytes begin with these, since they are known
+pub begins_known : (o : Option (List ℕ)) (shown : List ℕ) → IsSome o → devices.Begins o shown → StartsWith (known_bytes o) shown
+begins_known None shown known begins = absurd cc
+begins_known (Some bytes) shown known begins = begins
 
 -- ---- both inputs
 

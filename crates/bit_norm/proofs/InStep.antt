@@ -235,7 +235,7 @@ tally_definition begun old done mark was = go (is_left old.second_blocks.setting
 -- ---- a sign
 
 -- after a difference nothing changes but the open blocks
-tally_stays : (begun old : Compared) (done : List Event) (event : Event) (f : Found) → Tallied begun done old → old.found ≡ Some f → Tallied begun (done ++ event ∷ []) (with_blocks old (blocks.stands_after event old.second_blocks))
+pub tally_stays : (begun old : Compared) (done : List Event) (event : Event) (f : Found) → Tallied begun done old → old.found ≡ Some f → Tallied begun (done ++ event ∷ []) (with_blocks old (blocks.stands_after event old.second_blocks))
 tally_stays begun old done event f was found = record {
   stands = stands_on begun old done event was (blocks.stands_after event old.second_blocks) refl;
   tells = was.tells;

@@ -10,9 +10,12 @@ pub mod Falls
 pub mod Gains
 pub mod GivenAgain
 pub mod Going
+pub mod InFront
 pub mod InStep
 pub mod OneDifference
+pub mod PassedRecords
 pub mod Readings
+pub mod SharedFronts
 pub mod Signs
 pub mod Texts
 pub mod ValueTexts

@@ -4,7 +4,7 @@ use Rattle.bit_grammar.specs.Setting.{Setting}
 use Rattle.bit_grammar.specs.Under.{is_left, ids_behind, events_under}
 use Rattle.bit_grammar.specs.Blocks.{Limits}
 use Rattle.bit_grammar.specs.Input.{SpellsInput}
-use Rattle.bit_grammar.specs.Terms.{Head, Marked}
+use Rattle.bit_grammar.specs.Terms.{Marked}
 use Rattle.bit_grammar.specs.Machine.{Event, enters, defines, notes, leaves}
 use Rattle.bit_fields.specs.declared.fault.Fault.{Fault}
 use Rattle.bit_fields.specs.declared.fault.Fault.TheVariants.{Memory}
@@ -317,13 +317,6 @@ AnswersFound c (Some difference) = (f : Found) × (c.found ≡ Some f)
 abbrev pub Finishes : (behind_magic : ℕ) → Compared → Option Difference → Type 0
 Finishes behind_magic c answer = (let bit = second_end behind_magic c in (last : Compared)
     × TakesSign c over bit bit last × AnswersFound last answer)
-
--- the result for two inputs with these heads: their magics differ, or else the result of the comparison
-pub data Concludes (first second : Head) (c : Compared) (answer : Option Difference) : Type 0 where
-  other_magic : first.magic ≢ second.magic → (difference : Difference) → answer ≡ Some difference
-      → difference_shown difference ≡ magics_apart first second → Concludes first second c answer
-  same_magic : first.magic ≡ second.magic → Finishes (behind_magic second) c answer
-      → Concludes first second c answer
 
 -- an input was read, and has a marked tree, if it is known, and the result is where its tree and that of the other bytes differ
 abbrev pub ReadBeside : Setting → Limits → (bytes : List ℕ) → Incoming → Option Difference

@@ -1,4 +1,6 @@
+pub mod Fronts
 pub mod InStep
+pub mod InFront
 pub mod Rejoined
 pub mod Whole
 pub mod Building

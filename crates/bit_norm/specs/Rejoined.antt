@@ -7,7 +7,7 @@ use Rattle.bit_grammar.specs.Input.{SpellsInput}
 use Rattle.bit_grammar.specs.Terms.{Marked}
 use Rattle.bit_fields.specs.declared.fault.Fault.TheVariants.{Memory}
 use Rattle.bit_fields.specs.declared.source.SourceFailed.{SourceFailed}
-use Rattle.bit_fields.specs.Devices.{Incoming, Calls, keeping, calling, SaysOf, GaveNone}
+use Rattle.bit_fields.specs.Devices.{Incoming, Calls, keeping, calling, SaysOf, GaveNone, Begins}
 use Rattle.bit_events.specs.Reading.{Spent, LostInput}
 use Rattle.bit_norm.specs.InStep.{ComparesWith}
 use Rattle.bit_norm.specs.declared.differences.Difference.{Difference}
@@ -81,10 +81,21 @@ pub record TakesMore (first : List ℕ) (none : ℕ) (s : Slices) (old : Incomin
   pub few : t.bytes ≤ length first
   pub takes : Takes old (calls + none) (take width (drop s.bytes first)) new
 
+-- what was to come, if it was known, begins with the bytes that were taken and so many more, all of them the next of these
+pub record GoesOnAs (first : List ℕ) (equal : ℕ) (s : Slices) (old : Incoming) (t : Slices) : Type 0 where
+  pub few : t.bytes + equal ≤ length first
+  pub same : Begins old.to_come (drop s.bytes (take (t.bytes + equal) first))
+
+-- how many bytes behind those that were taken are known to be the same
+abbrev pub equal_behind : Stop → ℕ
+equal_behind Silent = 0
+equal_behind (Other equal) = equal
+equal_behind End = 0
+
 -- more slices were taken, and then no more
 abbrev pub StopsAt : Stop → (first : List ℕ) → Slices → Incoming → Slices → Incoming → Type 0
 StopsAt Silent first s old t new = TakesMore first 0 s old t new
-StopsAt Other first s old t new = TakesMore first 0 s old t new
+StopsAt (Other equal) first s old t new = TakesMore first 0 s old t new × GoesOnAs first equal s old t
 StopsAt End first s old t new = TakesMore first 1 s old t new × IsAtEnd new.to_come
 
 -- more slices were taken, and then the source failed
@@ -111,14 +122,16 @@ TakesNext next old (Ok (Some count)) new = (count ≤ length next) × (count ≡
     × Takes old 1 (take count next) new
 TakesNext next old (Err e) new = GaveNone old new
 
--- these slices of an input were taken, which have the first bytes of another one, and others after them
-pub record TakesFront (limits : Limits) (first next : List ℕ) (old : Incoming) (s : Slices) (more : ℕ)
+-- These slices of an input were taken, which have the first bytes of another one, and others after them. Behind the slices so many
+-- bytes are the same too, if the input is known.
+pub record TakesFront (limits : Limits) (first next : List ℕ) (old : Incoming) (s : Slices) (more equal : ℕ)
     (new : Incoming) : Type 0 where
-  pub few : s.bytes ≤ length first
+  pub few : s.bytes + equal ≤ length first
   pub within : s.bytes ≤ limits.bytes
   pub there : more ≤ length next
   pub one : more ≤ 1
   pub takes : Takes old (s.count + min 1 more) (take s.bytes first ++ take more next) new
+  pub same : Begins old.to_come (take (s.bytes + equal) first)
 
 -- all bytes of an input were taken, and are these
 pub record TakesSame (limits : Limits) (first : List ℕ) (old new : Incoming) : Type 0 where
@@ -135,11 +148,11 @@ pub record TakesEnd (limits : Limits) (first : List ℕ) (old : Incoming) (s : S
   pub end : IsAtEnd new.to_come
 
 -- the effect of taking the bytes of an input that begin as these
-abbrev pub Begins : Limits → (first : List ℕ) → Slices → (next : List ℕ) → Incoming → Result Beginning SourceFailed → Incoming → Type 0
-Begins limits first s next old (Ok Same) new = TakesSame limits first old new
-Begins limits first s next old (Ok Ended) new = TakesEnd limits first old s new
-Begins limits first s next old (Ok (Taken more silent)) new = TakesFront limits first next old s more new
-Begins limits first s next old (Err e) new = LostInput limits old new
+abbrev pub TakesBeginning : Limits → (first : List ℕ) → Slices → (next : List ℕ) → Incoming → Result Beginning SourceFailed → Incoming → Type 0
+TakesBeginning limits first s next old (Ok Same) new = TakesSame limits first old new
+TakesBeginning limits first s next old (Ok Ended) new = TakesEnd limits first old s new
+TakesBeginning limits first s next old (Ok (Taken more silent equal)) new = TakesFront limits first next old s more equal new
+TakesBeginning limits first s next old (Err e) new = LostInput limits old new
 
 -- ---- the comparison
 

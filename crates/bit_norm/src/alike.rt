@@ -2,7 +2,7 @@
 
 ghost use Rattle.std.specs.Prelude.{◌≡◌, ◌≤◌, length, take, true};
 ghost use Rattle.bit_grammar.specs.Setting.{setting_of};
-ghost use Rattle.bit_norm.specs.Rejoined.{Begins, ComparesChecked, Confirms, OfSecond, TakesNext, TakesSlice, TakesSlices};
+ghost use Rattle.bit_norm.specs.Rejoined.{equal_behind, ComparesChecked, Confirms, OfSecond, TakesBeginning, TakesNext, TakesSlice, TakesSlices};
 
 use crate::again::{Again, Slices};
 use crate::comparing::{SameFault, Which, faulty};
@@ -33,17 +33,27 @@ fn are_equal(a: &[u8], b: &[u8]) -> bool
     a == b
 }
 
-/// The length of `slice` if `rest` begins with it, or else 0.
-fn whole_front(slice: &[u8], rest: &[u8]) -> usize
+/// How many first bytes of two slices are the same.
+fn equal_front(slice: &[u8], rest: &[u8]) -> usize
     ensures same { take result slice.now ≡ take result rest.now }
     ensures first { result ≤ length slice.now }
     ensures second { result ≤ length rest.now }
 {
-    let count = slice.len();
-    if count <= rest.len() && are_equal(slice, &rest[..count]) {
-        return count;
+    let most = slice.len().min(rest.len());
+    let mut equal = 0;
+    // The first other byte, if there is one, is among this many more.
+    let mut left = most;
+    let mut width = most;
+    while width > 0 {
+        if are_equal(&slice[equal..equal + width], &rest[equal..equal + width]) {
+            equal += width;
+            left -= width;
+        } else {
+            left = width - 1;
+        }
+        width = (left + 1) / 2;
     }
-    0
+    equal
 }
 
 /// Why no more bytes are taken.
@@ -51,10 +61,22 @@ fn whole_front(slice: &[u8], rest: &[u8]) -> usize
 pub(crate) enum Stop {
     /// The source lends nothing.
     Silent,
-    /// The next slice has other bytes, it was not taken whole, or none is looked for.
-    Other,
+    /// The next slice has other bytes behind so many that are the same; or it was not taken whole, or none is looked for.
+    Other(usize),
     /// The source ended.
     End,
+}
+
+impl Stop {
+    /// How many bytes behind those that were taken are known to be the same.
+    fn equal(self) -> usize
+        ensures { result ≡ equal_behind self }
+    {
+        match self {
+            Stop::Other(equal) => equal,
+            Stop::Silent | Stop::End => 0,
+        }
+    }
 }
 
 /// Takes the slice that a source lends next, if it is the next of these bytes, and notes it. `None`: the next one may be taken too.
@@ -72,9 +94,11 @@ fn take_slice<S: Source>(
     if !source.look()? {
         return Ok(Some(Stop::Silent));
     }
-    let count = whole_front(source.lend(), &first[slices.bytes..]);
-    if count == 0 {
-        return Ok(Some(Stop::Other));
+    let slice = source.lend();
+    let count = slice.len();
+    let equal = equal_front(slice, &first[slices.bytes..]);
+    if equal < count || count == 0 {
+        return Ok(Some(Stop::Other(equal)));
     }
     let taken = source.pass(count)?;
     if taken == 0 {
@@ -82,7 +106,7 @@ fn take_slice<S: Source>(
     }
     slices.add(digits, taken);
     if taken < count {
-        return Ok(Some(Stop::Other));
+        return Ok(Some(Stop::Other(0)));
     }
     Ok(None)
 }
@@ -102,7 +126,7 @@ fn take_slices<S: Source>(
             return Ok(stop);
         }
     }
-    Ok(Stop::Other)
+    Ok(Stop::Other(0))
 }
 
 /// Takes the next byte of a source, and returns how many there are. `None`: it was only looked at, and lends more.
@@ -126,8 +150,13 @@ pub(crate) enum Beginning {
     Same,
     /// It has the bytes of the slices, and no more.
     Ended,
-    /// The bytes of the slices were taken, and `next` more. `silent`: it was then looked at and lent nothing.
-    Taken { next: usize, silent: bool },
+    /// The bytes of the slices were taken, and `next` more. `silent`: it was then looked at and lent nothing. So many bytes behind
+    /// those of the slices are the same too.
+    Taken {
+        next: usize,
+        silent: bool,
+        equal: usize,
+    },
 }
 
 /// Takes the bytes of a source that begin as these, as far as they are lent. If they are all, it asks for one more byte, after a
@@ -143,12 +172,13 @@ fn take_beginning<S: Source>(
     next: &mut [u8; 1],
 ) -> Result<Beginning, SourceFailed>
     requires { slices.old.bytes ≡ 0 }
-    ensures { Begins limits first.now slices.new next.new (S.incoming source.old) result (S.incoming source.new) }
+    ensures { TakesBeginning limits first.now slices.new next.new (S.incoming source.old) result (S.incoming source.new) }
 {
     if first.len() as u64 > limits.bytes() {
         return Ok(Beginning::Taken {
             next: 0,
             silent: false,
+            equal: 0,
         });
     }
     let stop = take_slices(first, source, slices, digits)?;
@@ -159,17 +189,20 @@ fn take_beginning<S: Source>(
         return Ok(Beginning::Taken {
             next: 0,
             silent: matches!(stop, Stop::Silent),
+            equal: stop.equal(),
         });
     }
     match take_next(source, (first.len() as u64) < limits.bytes(), next)? {
         None => Ok(Beginning::Taken {
             next: 0,
             silent: false,
+            equal: 0,
         }),
         Some(0) => Ok(Beginning::Same),
         Some(more) => Ok(Beginning::Taken {
             next: more,
             silent: false,
+            equal: 0,
         }),
     }
 }
@@ -228,15 +261,22 @@ fn compare_noting<S: Source>(
         Ok(Beginning::Same) => (confirm(alloc, first, limits, judged), source),
         Ok(Beginning::Ended) => {
             let all = SliceSource::new(&first[..slices.bytes]);
-            let (answer, _) = compare_with(alloc, first, all, limits, info);
+            let (answer, _) = compare_with(alloc, first, all, limits, info, slices.bytes);
             (of_second(answer), source)
         }
-        Ok(Beginning::Taken { next: more, silent }) => {
+        Ok(
+            Beginning::Taken {
+                next: more,
+                silent,
+                equal,
+            },
+        ) => {
             let bytes = &first[..slices.bytes];
+            let same = slices.bytes + equal;
             let count = slices.count;
             let again = Again::new(bytes, count, slices.widths(digits), &next[..more]);
             let rejoined = Rejoined::new(again, source, silent);
-            let (answer, rejoined) = compare_with(alloc, first, rejoined, limits, info);
+            let (answer, rejoined) = compare_with(alloc, first, rejoined, limits, info, same);
             (of_second(answer), rejoined.into_inner())
         }
         Err(SourceFailed) => (Err(faulty(Which::Second, Fault::Read)), source),

@@ -1,22 +1,32 @@
 //! An input that is read in step with the bytes of another one.
 
-ghost use Rattle.std.specs.Prelude.{◌≡◌, ◌*◌, ◌<◌, ◌^◌, IfOk, OnOk, IfSome, IfNone, None};
+ghost use Rattle.std.specs.Prelude.{◌≡◌, ◌*◌, ◌<◌, ◌≤◌, ◌^◌, IfOk, OnOk, IfSome, IfNone, None, length};
 ghost use Rattle.bit_grammar.specs.Setting.{setting_of};
+ghost use Rattle.bit_grammar.specs.Marks.{RecordMark};
+ghost use Rattle.bit_grammar.specs.Machine.{Opened, enters, leaves, notes};
 ghost use Rattle.bit_norm.specs.Entries as tree;
 ghost use Rattle.bit_norm.specs.Entries.{has_record, standing_shown, the_record, value_apart, what_of};
 ghost use Rattle.bit_events.specs.EventView.{event_shown};
 ghost use Rattle.bit_events.specs.Standing.{stands_after};
 ghost use Rattle.bit_fields.specs.Opening.{head_told};
-ghost use Rattle.bit_norm.specs.InStep.{said_of, sign_shown, stand_of, IsBeside, Weighs, PutsDown, StandsBeside, WeighsNext, Steps, Meets, Concludes, ComparesWith};
+ghost use Rattle.bit_fields.specs.PlacedView.{placed};
+ghost use Rattle.bit_events.specs.Passing.{PassesRun};
+ghost use Rattle.bit_norm.specs.InStep.{said_of, sign_shown, stand_of, IsBeside, Weighs, PutsDown, StandsBeside, WeighsNext, Steps, Meets};
+ghost use Rattle.bit_norm.specs.InFront.{ComparesBehind, Concludes, Matches};
 
 use crate::comparing::{SameFault, Which, faulty};
 use crate::differences::{Difference, Place, Standing, ValueDifference, What};
 use crate::sign::Sign;
-use crate::walk::Walk;
+use crate::walk::{Walk, one_more};
 use crate::writing::number_of_magic;
-use bit_abbrev::Abbrev;
-use bit_events::{Event, Folded, Gatherer, OpenBlocks, PackedEvent, RecordHead, SliceEvents, fold};
-use bit_fields::{ExpectedValues, Fault, Head, Limits, PackedValues, SliceSource, Source, Wrapper};
+use bit_abbrev::{Abbrev, Plan};
+use bit_events::{
+    CountedRecord, Event, Folded, Gatherer, OpenBlocks, PackedEvent, PassedRun, RecordHead,
+    RunCounter, SliceEvents, Uncounted, fold, pass_records,
+};
+use bit_fields::{
+    ExpectedValues, Fault, Head, Limits, PackedValues, PlacedBits, SliceSource, Source, Wrapper,
+};
 use bit_tree::Info;
 use std::alloc::{AllocError, Global};
 use std::marker::Model;
@@ -291,41 +301,214 @@ pub(crate) struct Comparer<'a> {
     first_ended: u64,
     /// The same in the second, unless nothing comes before it.
     second_ended: u64,
+    /// The bit up to which nothing is compared: both inputs have the same bytes up to there, or else a difference was found. It is 0
+    /// while both are read in step.
+    passed_to: u64,
+    /// The same bytes are all of the first.
+    is_whole: bool,
+    /// How many events of the second ended in the same bytes. Those of the first are the same, and were not read yet.
+    passed: u64,
     /// What the first has where it differs.
     apart: Apart,
     found: Option<Found>,
 }
 
-impl<'a> Model for Comparer<'a> {
-    ghost use Rattle.bit_norm.specs.InStep.{Compared};
+/// Records in the same bytes, and what was counted of them: the events so far, the items of the innermost block, and the bit after
+/// the last one.
+#[derive(Drop)]
+struct EqualRecords<'a> {
+    blocks: &'a OpenBlocks<'a>,
+    /// The bit up to which the bytes are the same.
+    equal: u64,
+    passed: u64,
+    items: u64,
+    ended: u64,
+}
 
-    ghost Value = { Compared };
+impl<'a> RunCounter for EqualRecords<'a> {
+    ghost use Rattle.bit_norm.specs.InFront.{CountsEqual};
+
+    ghost counted = { λ first records last. CountsEqual first records last };
+
+    #[inline(always)]
+    fn count(&mut self, passed: CountedRecord) -> Result<bool, AllocError> {
+        if passed.after > self.equal {
+            return Ok(false);
+        }
+        self.passed = one_more(self.passed)?;
+        if self.blocks.leaves_record(passed.code) {
+            self.items = one_more(self.items)?;
+            self.ended = passed.after;
+        }
+        Ok(true)
+    }
+}
+
+impl<'a> Model for Comparer<'a> {
+    ghost use Rattle.bit_norm.specs.InFront.{Comparing};
+
+    ghost Value = { Comparing };
 
     ghost view = { λ c. record {
-      first = c.first;
-      first_blocks = c.first_blocks;
-      second_blocks = c.second_blocks;
-      within = c.walk.open.items;
-      items = c.walk.items;
-      first_ended = c.first_ended;
-      second_ended = c.second_ended;
-      found = c.found;
+      compared = record {
+        first = c.first;
+        first_blocks = c.first_blocks;
+        second_blocks = c.second_blocks;
+        within = c.walk.open.items;
+        items = c.walk.items;
+        first_ended = c.first_ended;
+        second_ended = c.second_ended;
+        found = c.found;
+      };
+      passed_to = c.passed_to;
+      whole = c.is_whole;
+      passed = c.passed;
     } };
 }
 
 impl<'a> Comparer<'a> {
-    ghost use Rattle.bit_norm.specs.InStep.{TakesSign, AnswersFound, Finishes};
+    ghost use Rattle.bit_norm.specs.InStep.{AnswersFound, Finishes};
+    ghost use Rattle.bit_norm.specs.InFront.{Takes, FinishesAll, GoesInStep, PassesBy, PassesEvent, PassesSign};
 
-    /// Compares a sign of the second input, which begins at `bit` and ends at `ended`, with the next entry of the first. After a
-    /// difference the first is not read any more.
-    ///
-    /// The bytes of the first were accepted, so this fails only if out of memory.
-    fn take(&mut self, sign: Sign<'_>, bit: u64, ended: u64) -> Result<(), AllocError>
-        ensures { OnOk result (TakesSign self.old (sign_shown sign.entry) bit ended self.new) }
+    /// Goes on in step, behind the events that both inputs have. `all`: the first has no others.
+    #[cold]
+    #[inline(never)]
+    fn go_in_step(&mut self, all: bool) -> Result<(), AllocError>
+        ensures { OnOk result (GoesInStep all self.old self.new) }
+    {
+        if all {
+            self.first.drop_rest();
+        } else {
+            match self.first.pass(self.passed) {
+                Ok(count) if count == self.passed => {}
+                _ => return Err(AllocError),
+            }
+        }
+        self.passed_to = 0;
+        Ok(())
+    }
+
+    /// The same as `passes`, while both are not read in step.
+    #[inline(never)]
+    fn passes_some(&mut self, after: u64) -> Result<bool, AllocError>
+        requires { 0 < self.old.passed_to }
+        ensures { IfOk result (λ passes. PassesEvent after self.old passes self.new) }
+    {
+        if after <= self.passed_to {
+            self.passed = one_more(self.passed)?;
+            return Ok(true);
+        }
+        self.go_in_step(self.is_whole)?;
+        Ok(false)
+    }
+
+    /// Whether an event, which ends at a bit, is not compared.
+    #[inline(always)]
+    fn passes(&mut self, after: u64) -> Result<bool, AllocError>
+        ensures { IfOk result (λ passes. PassesEvent after self.old passes self.new) }
+    {
+        if self.passed_to == 0 {
+            return Ok(false);
+        }
+        self.passes_some(after)
+    }
+
+    /// Passes over records in the same bytes.
+    fn pass_equal(
+        &mut self,
+        bits: PlacedBits<'_>,
+        width: u32,
+        plans: &[Plan],
+        room: u64,
+    ) -> Result<PassedRun, AllocError>
+        requires width { width ≤ 32 }
+        requires found { self.old.compared.found ≡ None }
+        requires some { 0 < self.old.passed_to }
+        ensures { IfOk result (λ run. PassesRun Matches width plans.now room (placed bits.entry)
+            self.old run self.new) }
+    {
+        let mut equal = EqualRecords {
+            blocks: &self.second_blocks,
+            equal: self.passed_to,
+            passed: self.passed,
+            items: self.walk.items,
+            ended: self.second_ended,
+        };
+        let run = pass_records(bits, width, plans, room, &mut equal)?;
+        self.passed = equal.passed;
+        self.walk.items = equal.items;
+        self.first_ended = equal.ended;
+        self.second_ended = equal.ended;
+        Ok(run)
+    }
+
+    /// Takes a sign that is not compared, which ends at `ended`.
+    fn pass_sign(&mut self, sign: Sign<'_>, ended: u64) -> Result<(), AllocError>
+        ensures { OnOk result (PassesSign self.old (sign_shown sign.entry) ended self.new) }
+    {
+        self.walk.pass(sign)?;
+        self.first_ended = ended;
+        self.second_ended = ended;
+        Ok(())
+    }
+
+    /// Takes the beginning of a block that is not compared.
+    fn pass_enter(&mut self, id: u32, body: u64) -> Result<(), AllocError>
+        ensures { OnOk result ((opened : Opened) → opened.id ≡ id → opened.body ≡ body
+            → PassesBy (enters opened) self.old self.new) }
+    {
+        if self.found.is_some() {
+            self.second_blocks.enter(id)?;
+            return Ok(());
+        }
+        self.first_blocks.enter(id)?;
+        if !self.second_blocks.enter(id)? {
+            return Ok(());
+        }
+        self.pass_sign(Sign::Begins(id), body)
+    }
+
+    /// Takes a record that is not compared.
+    #[inline(always)]
+    fn pass_record(
+        &mut self,
+        code: u64,
+        values: &PackedValues,
+        after: u64,
+    ) -> Result<(), AllocError>
+        ensures { OnOk result ((mark : RecordMark) → mark.code ≡ code → mark.values ≡ values.now
+            → mark.after ≡ after → PassesBy (notes mark) self.old self.new) }
     {
         if self.found.is_some() {
             return Ok(());
         }
+        if self.second_blocks.leaves_record(code) {
+            return self.pass_sign(Sign::Record(code, values), after);
+        }
+        Ok(())
+    }
+
+    /// Takes the end of a block that is not compared.
+    fn pass_leave(&mut self, after: u64) -> Result<(), AllocError>
+        ensures { OnOk result (PassesBy (leaves after) self.old self.new) }
+    {
+        if self.found.is_some() {
+            self.second_blocks.leave();
+            return Ok(());
+        }
+        self.first_blocks.leave();
+        if self.second_blocks.leave() {
+            return self.pass_sign(Sign::Ends, after);
+        }
+        Ok(())
+    }
+
+    /// Compares a sign of the second input, which begins at `bit` and ends at `ended`, with the next entry of the first.
+    ///
+    /// The bytes of the first were accepted, so this fails only if out of memory.
+    fn take(&mut self, sign: Sign<'_>, bit: u64, ended: u64) -> Result<(), AllocError>
+        ensures { OnOk result (Takes self.old (sign_shown sign.entry) bit ended self.new) }
+    {
         match next_beside(
             &mut self.first,
             &mut self.first_blocks,
@@ -339,7 +522,10 @@ impl<'a> Comparer<'a> {
                 self.first_ended = first_ended;
                 self.second_ended = ended;
             }
-            Beside::Other => put_down(&self.apart, sign, bit, &mut self.found),
+            Beside::Other => {
+                put_down(&self.apart, sign, bit, &mut self.found);
+                self.passed_to = u64::MAX;
+            }
         }
         Ok(())
     }
@@ -352,11 +538,8 @@ impl<'a> Comparer<'a> {
         first: u64,
         after: u64,
     ) -> Result<(), AllocError>
-        ensures { OnOk result (TakesSign self.old (has_record code values.now) first after self.new) }
+        ensures { OnOk result (Takes self.old (has_record code values.now) first after self.new) }
     {
-        if self.found.is_some() {
-            return Ok(());
-        }
         match next_beside_record(
             &mut self.first,
             &mut self.first_blocks,
@@ -374,6 +557,7 @@ impl<'a> Comparer<'a> {
             Beside::Other => {
                 let sign = Sign::Record(code, values);
                 put_down(&self.apart, sign, first, &mut self.found);
+                self.passed_to = u64::MAX;
             }
         }
         Ok(())
@@ -381,7 +565,7 @@ impl<'a> Comparer<'a> {
 
     /// The difference, if one was found.
     fn difference(self) -> Option<Difference>
-        ensures { AnswersFound self.entry result }
+        ensures { AnswersFound self.entry.compared result }
     {
         let Comparer {
             alloc: _,
@@ -391,6 +575,9 @@ impl<'a> Comparer<'a> {
             walk,
             first_ended: _,
             second_ended: _,
+            passed_to: _,
+            is_whole: _,
+            passed: _,
             apart: _,
             found,
         } = self;
@@ -409,35 +596,55 @@ impl<'a> Comparer<'a> {
     }
 
     /// Compares the end of the second stream, whose magic ends at `behind_magic`, with the next entry of the first, and returns the
-    /// difference, if one was found.
-    fn finish(mut self, behind_magic: u64) -> Result<Option<Difference>, AllocError>
-        ensures { IfOk result (λ answer. Finishes behind_magic self.entry answer) }
+    /// difference, if one was found. Both are read in step.
+    fn finish_in_step(mut self, behind_magic: u64) -> Result<Option<Difference>, AllocError>
+        requires { self.compared.found ≡ None }
+        ensures { IfOk result (λ answer. Finishes behind_magic self.entry.compared answer) }
     {
         let bit = self.walk.ended_from(behind_magic, self.second_ended);
         self.take(Sign::Over, bit, bit)?;
         Ok(self.difference())
     }
+
+    /// Compares the end of the second stream, whose magic ends at `behind_magic`, with the entry of the first at the place, if no
+    /// difference was found before, and returns the difference, if there is one.
+    fn finish(mut self, behind_magic: u64) -> Result<Option<Difference>, AllocError>
+        ensures { IfOk result (λ answer. FinishesAll behind_magic self.entry answer) }
+    {
+        if self.found.is_some() {
+            return Ok(self.difference());
+        }
+        if self.passed_to == 0 {
+            return self.finish_in_step(behind_magic);
+        }
+        self.go_in_step(false)?;
+        self.finish_in_step(behind_magic)
+    }
 }
 
 impl<'a> Gatherer for Comparer<'a> {
-    ghost use Rattle.bit_norm.specs.InStep.{Tallied};
+    ghost use Rattle.bit_norm.specs.InFront.{Matches};
 
     type Values = PackedValues;
 
-    ghost gathered = { λ first events last. Tallied first events last };
+    ghost gathered = { λ first events last. Matches first events last };
 
     fn values(&self) -> PackedValues {
         PackedValues::new(self.alloc)
     }
 
     fn enter(&mut self, id: u32, _width: u8, first: u64, body: u64) -> Result<(), AllocError> {
+        if self.passes(body)? {
+            return self.pass_enter(id, body);
+        }
         if self.second_blocks.enter(id)? {
             return self.take(Sign::Begins(id), first, body);
         }
         Ok(())
     }
 
-    fn define(&mut self, _abbrev: &Abbrev, _first: u64, _after: u64) -> Result<(), AllocError> {
+    fn define(&mut self, _abbrev: &Abbrev, _first: u64, after: u64) -> Result<(), AllocError> {
+        self.passes(after)?;
         Ok(())
     }
 
@@ -450,13 +657,40 @@ impl<'a> Gatherer for Comparer<'a> {
         first: u64,
         after: u64,
     ) -> Result<(), AllocError> {
+        if self.passes(after)? {
+            return self.pass_record(code, values, after);
+        }
         if self.second_blocks.leaves_record(code) {
             return self.take_record(code, values, first, after);
         }
         Ok(())
     }
 
+    #[inline(always)]
+    fn counts(&self) -> bool {
+        self.passed_to > 0
+    }
+
+    fn pass(
+        &mut self,
+        bits: PlacedBits<'_>,
+        width: u32,
+        plans: &[Plan],
+        room: u64,
+    ) -> Result<PassedRun, AllocError> {
+        if self.passed_to == 0 {
+            return Ok(PassedRun::none(bits, room));
+        }
+        if self.found.is_some() {
+            return pass_records(bits, width, plans, room, &mut Uncounted);
+        }
+        self.pass_equal(bits, width, plans, room)
+    }
+
     fn leave(&mut self, after: u64) -> Result<(), AllocError> {
+        if self.passes(after)? {
+            return self.pass_leave(after);
+        }
         if self.second_blocks.leave() {
             let bit = self.second_ended;
             return self.take(Sign::Ends, bit, after);
@@ -514,6 +748,9 @@ fn conclude(first: &Head, folded: Folded<Comparer<'_>>) -> Result<Option<Differe
 /// Reads an input to its end, in step with the accepted bytes of the first, and returns where their trees under a setting first
 /// differ, if they do. The source is returned in its present state.
 ///
+/// The first `equal` bytes of both are the same, so the events in them are only passed over, first in the input and then in the
+/// bytes of the first; and after a difference the rest of the input is.
+///
 /// For the first input only an allocation can fail. A failure before the second input is read is reported for the first, and a
 /// later one for the second.
 pub(crate) fn compare_with<S: Source>(
@@ -522,8 +759,10 @@ pub(crate) fn compare_with<S: Source>(
     source: S,
     limits: Limits,
     info: Info<'_>,
+    equal: usize,
 ) -> (Result<Option<Difference>, SameFault>, S)
-    ensures { ComparesWith (setting_of info.entry) limits first.now (S.incoming source) result.0
+    requires few { equal ≤ length first.now }
+    ensures { ComparesBehind (setting_of info.entry) limits first.now equal (S.incoming source) result.0
         (S.incoming result.1) }
 {
     let events = match SliceEvents::start(alloc, SliceSource::new(first), limits) {
@@ -531,14 +770,18 @@ pub(crate) fn compare_with<S: Source>(
         Err(_) => return (Err(faulty(Which::First, Fault::Memory)), source),
     };
     let head = *events.head();
+    let behind_magic = magic_bit(&head) + 32;
     let comparer = Comparer {
         alloc,
         first: events,
         first_blocks: OpenBlocks::new(alloc, info),
         second_blocks: OpenBlocks::new(alloc, info),
         walk: Walk::new(alloc),
-        first_ended: magic_bit(&head) + 32,
-        second_ended: 0,
+        first_ended: behind_magic,
+        second_ended: behind_magic,
+        passed_to: (equal as u64).saturating_mul(8),
+        is_whole: equal == first.len(),
+        passed: 0,
         apart: Apart {
             first: Standing {
                 bit: 0,

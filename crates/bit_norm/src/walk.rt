@@ -15,7 +15,7 @@ pub(crate) struct Walk {
 }
 
 /// One item more. Each item has bits of its own, so their number never reaches 2^64 - 1.
-fn one_more(items: u64) -> Result<u64, AllocError>
+pub(crate) fn one_more(items: u64) -> Result<u64, AllocError>
     ensures { IfOk result (λ more. more ≡ items + 1) }
 {
     items.checked_add(1).ok_or(AllocError)

@@ -294,14 +294,15 @@ impl<'a> RunCounter for RowCounter<'a> {
     ghost counted = { λ first records last. CountsBehind first.row records last.row };
 
     #[inline(always)]
-    fn count(&mut self, passed: CountedRecord) -> Result<(), AllocError> {
+    fn count(&mut self, passed: CountedRecord) -> Result<bool, AllocError> {
         let addition = Addition::Record {
             code: passed.code,
             abbreviated: passed.id >= 4,
             values: passed.count,
             bits: passed.after - passed.first,
         };
-        self.row.add(self.places, self.place, addition)
+        self.row.add(self.places, self.place, addition)?;
+        Ok(true)
     }
 }
 

@@ -140,7 +140,7 @@ impl Maker {
 }
 
 /// An input of some items, with the usual magic. Every second one has one bit changed.
-pub(super) fn made(alloc: Global, seed: u64) -> Result<Vec<u8>, AllocError> {
+pub(crate) fn made(alloc: Global, seed: u64) -> Result<Vec<u8>, AllocError> {
     let mut made = Maker {
         bytes: Vec::new(alloc),
         bits: 0,
@@ -497,7 +497,7 @@ fn described(alloc: Global, seed: u64, items: u32) -> Result<Vec<u8>, AllocError
 }
 
 /// Such a stream, every third one in a wrapper with up to 40 bytes behind it. Every second input has one bit changed.
-pub(super) fn wide(alloc: Global, seed: u64, items: u32) -> Result<Vec<u8>, AllocError> {
+pub(crate) fn wide(alloc: Global, seed: u64, items: u32) -> Result<Vec<u8>, AllocError> {
     let stream = described(alloc, seed, items)?;
     let mut bytes = match seed % 3 {
         0 => wrapped(alloc, &stream, (seed.wrapping_mul(7) % 41) as usize)?,

@@ -153,7 +153,7 @@ fn state_of(source: Lender<'_>) -> (u64, usize, usize) {
 }
 
 /// The limits of two folds, the room of the buffer of their source, what its reader gives by turns, the read at which that fails, if
-/// it is not 0, and the number of events after which the gatherer fails.
+/// it is not 0, the number of events after which the gatherer fails, and for how long it counts at a time.
 #[derive(Clone, Copy, Debug)]
 struct Case {
     limits: Limits,
@@ -161,6 +161,12 @@ struct Case {
     sizes: &'static [usize],
     fails_at: u64,
     events: u32,
+    turn: u32,
+}
+
+/// A gatherer counts always, or never: by whether the read is even at which its source fails.
+fn always_or_never(fails_at: u64) -> u32 {
+    if fails_at % 2 == 0 { u32::MAX } else { 0 }
 }
 
 /// Checks that two sources are in the same state.
@@ -188,8 +194,8 @@ fn asks_alike(rt: &impl Abort, alloc: Global, bytes: &[u8], case: &Case) {
     }
 }
 
-/// Checks that both folds return the same from sources of the same bytes, to a gatherer that counts the values, and returns the
-/// sources.
+/// Checks that both folds return the same from sources of the same bytes: the one to a gatherer that counts the values for some time,
+/// the other to one that never does. Returns the sources.
 fn counts_alike<S: Source>(
     rt: &impl Abort,
     alloc: Global,
@@ -197,11 +203,12 @@ fn counts_alike<S: Source>(
     source: S,
     read: S,
 ) -> (S, S) {
-    let none = Counted::failing_after(case.events, case.fails_at % 2 == 0);
-    let (new, source) = fold(alloc, source, case.limits, none);
-    let (old, counted, read) = fold_by_records(alloc, read, case.limits, none);
+    let counts = Counted::failing_after(case.events, case.turn);
+    let reads = Counted::failing_after(case.events, 0);
+    let (new, source) = fold(alloc, source, case.limits, counts);
+    let (old, gathered, read) = fold_by_records(alloc, read, case.limits, reads);
     match (new, old) {
-        (Ok(new), Ok(())) => assert!(rt; new.gatherer == counted, "{case:?}"),
+        (Ok(new), Ok(())) => assert!(rt; new.gatherer.told() == gathered.told(), "{case:?}"),
         (Err(new), Err(old)) => assert!(rt; new == old, "{case:?}"),
         _ => assert!(rt; false, "{case:?}"),
     }
@@ -236,30 +243,38 @@ fn keeps_alike(rt: &impl Abort, alloc: Global, bytes: &[u8], case: &Case) {
 // ---- a gatherer that counts
 
 /// How many values there were, a number that depends on the kinds and places of all events, how many more events it takes before it
-/// fails for want of memory, and whether it passes over records.
-#[derive(Clone, Copy, Debug, PartialEq, Eq)]
+/// fails for want of memory, and how many steps it counts and then does not, by turns: none, if that is 0.
+#[derive(Clone, Copy)]
 struct Counted {
     values: u64,
     trace: u64,
     room: u32,
-    passes: bool,
+    turn: u32,
+    steps: u32,
 }
 
 impl Counted {
     /// No values and no events. It fails after so many events, or earlier.
-    fn failing_after(events: u32, passes: bool) -> Counted {
+    fn failing_after(events: u32, turn: u32) -> Counted {
         Counted {
             values: 0,
             trace: 0,
             room: events,
-            passes,
+            turn,
+            steps: 0,
         }
+    }
+
+    /// What it gathered.
+    fn told(self) -> (u64, u64, u32) {
+        (self.values, self.trace, self.room)
     }
 
     fn add(&mut self, kind: u64, place: u64) -> Result<(), AllocError> {
         self.room = self.room.checked_sub(1).ok_or(AllocError)?;
         let event = place.wrapping_mul(256).wrapping_add(kind);
         self.trace = self.trace.wrapping_mul(31).wrapping_add(event);
+        self.steps = self.steps.wrapping_add(1);
         Ok(())
     }
 }
@@ -297,7 +312,10 @@ impl Gatherer for Counted {
     }
 
     fn counts(&self) -> bool {
-        self.passes
+        match self.steps.checked_div(self.turn) {
+            Some(turns) => turns % 2 == 0,
+            None => false,
+        }
     }
 
     fn pass(
@@ -318,10 +336,14 @@ impl Gatherer for Counted {
 impl RunCounter for Counted {
     ghost counted = { λ first records last. Unit {0} };
 
-    fn count(&mut self, passed: CountedRecord) -> Result<(), AllocError> {
+    fn count(&mut self, passed: CountedRecord) -> Result<bool, AllocError> {
+        if !self.counts() {
+            return Ok(false);
+        }
         self.values = self.values.saturating_add(passed.count);
         self.add(passed.id, passed.first)?;
-        self.add(passed.code, passed.after)
+        self.add(passed.code, passed.after)?;
+        Ok(true)
     }
 }
 
@@ -348,6 +370,7 @@ fn a_fold_asks_as_it_did(rt: HostRuntime) {
                     sizes: &WHOLE,
                     fails_at,
                     events: u32::MAX,
+                    turn: 0,
                 };
                 asks_alike(&rt, rt.alloc(), &bytes, &case);
             }
@@ -357,6 +380,7 @@ fn a_fold_asks_as_it_did(rt: HostRuntime) {
                 sizes: &WHOLE,
                 fails_at: 0,
                 events: (seed % 40) as u32,
+                turn: 0,
             };
             asks_alike(&rt, rt.alloc(), &bytes, &case);
         }
@@ -365,7 +389,7 @@ fn a_fold_asks_as_it_did(rt: HostRuntime) {
 
 /// How many values an input has, or 20 if it is refused.
 fn values_in(alloc: Global, bytes: &[u8]) -> u64 {
-    let none = Counted::failing_after(u32::MAX, false);
+    let none = Counted::failing_after(u32::MAX, 0);
     match fold(alloc, SliceSource::new(bytes), Limits::usual(), none) {
         (Ok(folded), _) => folded.gatherer.values,
         (Err(_), _) => 20,
@@ -412,6 +436,7 @@ fn all_reads_alike(
             sizes: &WHOLE,
             fails_at: fails_at as u64,
             events: u32::MAX,
+            turn: always_or_never(fails_at as u64),
         };
         both_alike(rt, alloc, bytes, &case, fails_at % 8 == 0);
     }
@@ -421,6 +446,7 @@ fn all_reads_alike(
         sizes: &WHOLE,
         fails_at: 0,
         events,
+        turn: u32::MAX,
     };
     both_alike(rt, alloc, bytes, &case, true);
 }
@@ -462,7 +488,14 @@ static UNEVEN: [(usize, &[usize]); 6] = [
 
 /// Compares the folds of an input over readers that give less than they are asked for, or are interrupted, with a failure at one of
 /// the reads.
-fn uneven_alike(rt: &impl Abort, alloc: Global, bytes: &[u8], limits: Limits, fails_at: u64) {
+fn uneven_alike(
+    rt: &impl Abort,
+    alloc: Global,
+    bytes: &[u8],
+    limits: Limits,
+    fails_at: u64,
+    turn: u32,
+) {
     for (room, sizes) in &UNEVEN {
         let case = Case {
             limits,
@@ -470,6 +503,7 @@ fn uneven_alike(rt: &impl Abort, alloc: Global, bytes: &[u8], limits: Limits, fa
             sizes,
             fails_at,
             events: u32::MAX,
+            turn,
         };
         lends_alike(rt, alloc, bytes, &case);
         front_alike(rt, alloc, bytes, &case);
@@ -483,7 +517,8 @@ fn a_fold_of_uneven_reads_asks_as_it_did(rt: HostRuntime) {
         let bytes = wide(rt.alloc(), seed, 40).expect(&rt, "memory");
         let limits = narrow(&rt, rt.alloc(), seed, &bytes);
         for fails_at in 0..20 {
-            uneven_alike(&rt, rt.alloc(), &bytes, limits, fails_at);
+            let turn = always_or_never(fails_at);
+            uneven_alike(&rt, rt.alloc(), &bytes, limits, fails_at, turn);
         }
     }
 }
@@ -500,9 +535,36 @@ fn a_gatherer_and_a_source_fail_as_they_did(rt: HostRuntime) {
                     sizes: &WHOLE,
                     fails_at,
                     events,
+                    turn: always_or_never(fails_at),
                 };
                 lends_alike(&rt, rt.alloc(), &bytes, &case);
             }
+        }
+    }
+}
+
+/// Compares the folds of a slice, with a gatherer that counts by turns.
+fn slices_alike(rt: &impl Abort, alloc: Global, bytes: &[u8], limits: Limits, turn: u32) {
+    let case = Case {
+        limits,
+        room: 0,
+        sizes: &WHOLE,
+        fails_at: 0,
+        events: u32::MAX,
+        turn,
+    };
+    let source = || SliceSource::new(bytes);
+    counts_alike(rt, alloc, &case, source(), source());
+}
+
+#[test]
+fn a_gatherer_counts_by_turns(rt: HostRuntime) {
+    for seed in 0..16 {
+        let bytes = wide(rt.alloc(), seed, 40).expect(&rt, "memory");
+        let limits = narrow(&rt, rt.alloc(), seed, &bytes);
+        for turn in 1..24 {
+            slices_alike(&rt, rt.alloc(), &bytes, limits, turn);
+            uneven_alike(&rt, rt.alloc(), &bytes, limits, seed % 4, turn);
         }
     }
 }

@@ -32,7 +32,7 @@ fn told_of<S: Source + Drop>(
 ) -> Result<([String; 2], S, S), AllocError> {
     let Pair { first, limits, .. } = *pair;
     let (new, compared) = compare_checked(alloc, first, compared, limits, Info::Keep, true);
-    let (old, read) = compare_with(alloc, first, read, limits, Info::Keep);
+    let (old, read) = compare_with(alloc, first, read, limits, Info::Keep, 0);
     let new = format!(in alloc; "{new:?}")?;
     let old = format!(in alloc; "{:?}", of_second(old))?;
     Ok(([new, old], compared, read))
@@ -327,7 +327,7 @@ fn told_early(alloc: Global, bytes: &[u8], count: usize) -> Result<[String; 2], 
         pulls: 0,
     };
     let (new, _) = compare_checked(alloc, bytes, early(), Limits::usual(), Info::Keep, true);
-    let (old, _) = compare_with(alloc, bytes, early(), Limits::usual(), Info::Keep);
+    let (old, _) = compare_with(alloc, bytes, early(), Limits::usual(), Info::Keep, 0);
     Ok([
         format!(in alloc; "{new:?}")?,
         format!(in alloc; "{:?}", of_second(old))?,
@@ -341,7 +341,7 @@ fn an_end_before_lent_bytes(rt: HostRuntime) {
     let bytes = first.as_slice();
     for count in 0..bytes.len() {
         let given = SliceSource::new(&bytes[..count]);
-        let (given, _) = compare_with(rt.alloc(), bytes, given, Limits::usual(), Info::Keep);
+        let (given, _) = compare_with(rt.alloc(), bytes, given, Limits::usual(), Info::Keep, 0);
         let given = format!(in rt.alloc(); "{:?}", of_second(given)).expect(&rt, "memory");
         let [new, old] = told_early(rt.alloc(), bytes, count).expect(&rt, "memory");
         let agree = new.as_str() == old.as_str() || new.as_str() == given.as_str();

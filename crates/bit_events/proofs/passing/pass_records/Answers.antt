@@ -41,7 +41,7 @@ loop-bits-preserved g c = record {
       let seen = subst (Reads (entry l.room b.position c.fixed-id.result definitions) (beyond b c.args.width) (record { code = passed.code; values = over.1.0 })) end over.1.2 in
       let more = one_passed c.args.width definitions c.args.room (placed c.args.bits) h.0 l.room b one over.1.0 (placed c.after-after.result) h.2 (omega arith) c.fixed-id.ensures seen (omega (arith, over.1.1, few)) c.position.ensures c.position-in-loop-bits.ensures in (
         h.0 ++ mark_of one over.1.0 ∷ [],
-        c.in_ok-count.ensures over.1.0 over.1.1 c.args.counter.now h.0 h.1,
+        c.in_ok-counts.ensures.counts c.if-not-counts.false over.1.0 over.1.1 c.args.counter.now h.0 h.1,
         subst (λ (n : ℕ). PassedTo c.args.width definitions c.args.room (placed c.args.bits) (h.0 ++ mark_of one over.1.0 ∷ []) (l.room - n) (placed c.after-after.result)) over.1.1 more,
       );
 }
@@ -51,3 +51,13 @@ returns-clause-passes g c = λ definitions are.
     let l = c.loop-bits in
     let h = l.invariant.passed definitions are in
     (h.0, h.1, passes_records c.args.width definitions c.args.room (placed c.args.bits) h.0 l.room (placed l.bits) (record { after = c.position-2.result; room = l.room; is_over = c.loop-bits-test.is_over }) h.2 refl c.position-2.ensures)
+
+pub returns-then-not-counts-clause-passes : goal.returns-then-not-counts-clause-passes
+returns-then-not-counts-clause-passes g c = λ definitions are.
+    let l = c.loop-bits in
+    let h = l.invariant.passed definitions are in
+    let left = c.in_ok-counts.ensures.leaves c.if-not-counts.true in (
+      h.0,
+      rw left h.1,
+      passes_records c.args.width definitions c.args.room (placed c.args.bits) h.0 l.room (placed l.bits) (record { after = c.position-then-not-counts.result; room = l.room; is_over = l.is_over }) h.2 refl c.position-then-not-counts.ensures,
+    )

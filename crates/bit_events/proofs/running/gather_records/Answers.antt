@@ -111,6 +111,36 @@ loop-id-preserved g c =
       took = c.in_ok-record.ensures.took (list, taken);
     }
 
+pub returns-then-counts-clause-took : goal.returns-then-counts-clause-took
+returns-then-counts-clause-took g c =
+    let added = c.in-Ok.ensures.adds [] (c.truncate.ensures [] c.loop-id.invariant.took.0 c.loop-id.invariant.took.1 refl) in
+    c.in_ok-record.ensures.took (added.0, added.1)
+
+pub returns-then-counts-clause-gathers : goal.returns-then-counts-clause-gathers
+returns-then-counts-clause-gathers g c =
+    let l = c.loop-id in
+    let f = c.args.frame.now in
+    let b = c.record_id.new.buffered in
+    let d = c.read_entry.new.bits in
+    let id = c.in-Some.id in
+    let code = c.in-Ok.code in
+    let h = c.gather_as_bits.new.gatherer in
+    let left = subst (λ (found : Option ℕ). GathersFrom g.G.Gatherer.gathered c.args.limits.now f l.spent id l.first b l.gatherer c.gather_as_bits.new.used found h) c.in_default-2.is c.in_ok-after.ensures.gathers in
+    let before = gathers_still g.G.Gatherer.gathered c.args.limits.now f c.args.used.now c.args.buffered c.args.gatherer.now l.spent l.buffered l.gatherer h l.invariant.gathers left.1 in
+    let added = rw (c.all-definitions.ensures, l.invariant.first) at (c.in-Ok.ensures.adds [] (c.truncate.ensures [] l.invariant.took.0 l.invariant.took.1 refl)) in
+    let read = added_behind (entry l.room l.buffered.position id f.definitions) l.room (reader_at b) code (reader_at d) [] added.0 added.2 in
+    let list : List ℕ = read.0 in
+    let taken = subst (g.G.Values.ValueTaker.took c.read_entry.new.values) read.1 added.1 in
+    let more : c.gather_as_bits.new.used + c.count-count.result ≡ l.spent + length list = omega (arith, left.0, c.count-count.ensures list taken, read.2.0, c.values.ensures.capped, l.invariant.room) in (
+      d,
+      sym c.position-after.ensures,
+      gathers_more g.G.Gatherer.gathered c.args.limits.now f c.args.used.now c.args.buffered c.args.gatherer.now l.spent l.buffered h id code list d c.record.new.self (c.gather_as_bits.new.used + c.count-count.result) before more
+          (λ outer handed same.
+          let room = ap (λ (u : ℕ). c.args.limits.now.values - u) same ∙ sym l.invariant.room in
+          record_seen c.args.limits.now (frame_shown f) outer handed id code list l.buffered b d (ap info_shown c.requires.plain) c.in-Some.ensures.three c.in-Some.ensures.reads (rw room read.2.1))
+          (subst (λ (n : ℕ). Gathers g.G.Gatherer.gathered h (record_of id list l.buffered.position (code, n)) c.record.new.self) c.position-after.ensures (subst (λ (n : ℕ). Gathers g.G.Gatherer.gathered h (record_of id list n (code, c.position-after.result)) c.record.new.self) l.invariant.first (c.in_ok-record.ensures.gathers list taken))),
+    )
+
 pub returns-in_default-read_entry-clause-gathers : goal.returns-in_default-read_entry-clause-gathers
 returns-in_default-read_entry-clause-gathers g c =
     let l = c.loop-id in

@@ -11,7 +11,7 @@ returns-in-Ok-Taken g c =
     let front = rw c.in-Ok-Taken.field-0-is at c.in-Ok-Taken.ensures in
     let begun = rw (c.new-again.ensures.held) at c.new-rejoined.ensures in
     let inner = c.into_inner.ensures in
-    checked_front c.args.judged (setting_of c.args.info) c.args.limits c.args.first.now c.take_beginning.new.next c.take_beginning.new.slices c.in-Ok-Taken.more (g.S.Source.incoming c.args.source) (g.S.Source.incoming c.take_beginning.new.source) _ (g.S.Source.incoming c.into_inner.result) _ inner.0 _ inner.1 inner.2 inner.3 c.compare_with-answer-in-Ok-Taken.result.0 c.of_second-in-Ok-Taken.result c.bytes-bytes.ensures.capped front c.new-again.ensures.owed begun inner.4 c.compare_with-answer-in-Ok-Taken.ensures c.of_second-in-Ok-Taken.ensures
+    checked_front c.args.judged (setting_of c.args.info) c.args.limits c.args.first.now c.take_beginning.new.next c.take_beginning.new.slices c.in-Ok-Taken.more c.in-Ok-Taken.equal (g.S.Source.incoming c.args.source) (g.S.Source.incoming c.take_beginning.new.source) _ (g.S.Source.incoming c.into_inner.result) _ inner.0 _ inner.1 inner.2 inner.3 c.compare_with-answer-in-Ok-Taken.result.0 c.of_second-in-Ok-Taken.result c.bytes-bytes.ensures.capped front c.new-again.ensures.owed begun inner.4 c.compare_with-answer-in-Ok-Taken.ensures c.of_second-in-Ok-Taken.ensures
 
 pub returns-in-Ok-Ended : goal.returns-in-Ok-Ended
 returns-in-Ok-Ended g c =

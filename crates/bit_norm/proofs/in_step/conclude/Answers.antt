@@ -1,6 +1,6 @@
 use Rattle.std.proofs.Common.{refl, sym, ◌∙◌}
 use Rattle.bit_fields.specs.Opening.{head_told}
-use Rattle.bit_norm.specs.InStep.{other_magic}
+use Rattle.bit_norm.specs.InFront.{other_magic}
 use Rattle.bit_norm.proofs.Comparisons.{magics_seen}
 use Rattle.bit_norm.proofs.in_step.conclude.Goals as goal
 

@@ -37,6 +37,6 @@ invariant_of-result c =
       behind = λ _. omega (arith, there);
       there = λ _ _. omega (arith, there);
       sees = λ _. rw (nothing_seen r a there) (subst (λ (x : BufferedBits). Sees r x) (sym c.new-buffered.ensures) c.parts_in_slice.ensures.sees);
-      aligned = λ _ _. sym (ap (λ (p : ℕ). p % 8) there) ∙ omega (arith, c.in_ok-reader.ensures.place);
+      aligned = λ _ _ _. sym (ap (λ (p : ℕ). p % 8) there) ∙ omega (arith, c.in_ok-reader.ensures.place);
       closed = λ e. absurd (cc);
     }
