@@ -362,7 +362,7 @@ pub(crate) fn buffered_from<'a>(parts: BufferedParts<'a>, first: u64, loaded: u6
 /// Gathers records of a block that is no BLOCKINFO block from a bit on, as long as they are completely buffered, and returns the bit
 /// after the last one. The gatherer needs only the number of their values. Whether the last ones are read depends on where the window
 /// ends: so it ends at `loaded`, as that of an exact reader.
-#[inline(never)]
+#[inline(always)]
 pub(crate) fn count_records<G: Gatherer>(
     parts: BufferedParts<'_>,
     start: u64,
@@ -386,20 +386,40 @@ pub(crate) fn count_records<G: Gatherer>(
         (beyond (bits_of_parts parts.entry) (start - (bits_of_parts parts.entry).position))
         gatherer.old gatherer.new) }
 {
+    let plans = frame.definitions.plans();
+    let run = pass_placed(parts, start, frame, plans, limits, used, gatherer)?;
+    if run.is_over {
+        return Ok(run.after);
+    }
+    count_on(parts, run.after, loaded, frame, limits, used, gatherer, values)
+}
+
+#[inline(never)]
+fn count_on<G: Gatherer>(
+    parts: BufferedParts<'_>,
+    start: u64,
+    loaded: u64,
+    frame: &Frame,
+    limits: &Limits,
+    used: &mut u64,
+    gatherer: &mut G,
+    values: &mut G::Values,
+) -> Result<u64, AllocError>
+{
     let mut first = start;
     let mut window = loaded;
     let plans = frame.definitions.plans();
     loop {
-        let run = pass_placed(parts, first, frame, plans, limits, used, gatherer)?;
-        first = run.after;
-        if run.is_over {
-            return Ok(first);
-        }
         window = loaded_at(first, window);
         let buffered = buffered_from(parts, first, window);
         let run = gather_odd(buffered, frame, limits, used, gatherer, values)?;
         first = run.after;
         if run.is_over || !gatherer.counts() {
+            return Ok(first);
+        }
+        let run = pass_placed(parts, first, frame, plans, limits, used, gatherer)?;
+        first = run.after;
+        if run.is_over {
             return Ok(first);
         }
     }

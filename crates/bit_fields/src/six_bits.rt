@@ -66,6 +66,29 @@ pub(crate) fn end_of(word: u64, count: u64) -> Option<u32>
     Some(reached.trailing_zeros() + 1)
 }
 
+#[inline(always)]
+pub(crate) fn numbers_by(ends: u64, most: u64) -> (u64, u32) {
+    let ends = ends & TOPS;
+    let sums = (ends >> 5).wrapping_mul(ONES) & ALL;
+    let total = sums >> 48;
+    if total <= most {
+        return (total, 64 - ends.leading_zeros());
+    }
+    let reached = (sums + (32 - most) * ONES) & TOPS;
+    (most, reached.trailing_zeros() + 1)
+}
+
+#[inline(always)]
+pub(crate) fn end_by(ends: u64, count: u64) -> Option<u32> {
+    let ends = ends & TOPS;
+    let sums = (ends >> 5).wrapping_mul(ONES);
+    let reached = sums.wrapping_add((32 - count).wrapping_mul(ONES)) & TOPS;
+    if reached == 0 {
+        return None;
+    }
+    Some(reached.trailing_zeros() + 1)
+}
+
 /// Whether each number that the first `bits` bits spell is in its shortest spelling: no number has a last chunk of zeros after
 /// other chunks.
 #[inline(always)]

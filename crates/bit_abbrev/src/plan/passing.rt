@@ -47,12 +47,21 @@ impl Passes {
             return Some(u64::from(self.after));
         }
         let first = &self.pass[0];
-        let mut len = first.len(fields.after(u32::from(first.skip)))?;
+        let len = first.len(fields.after(u32::from(first.skip)))?;
+        if self.count == 1 {
+            return Some(len + u64::from(self.after));
+        }
+        self.more_len(fields.bits(), len)
+    }
+
+    #[inline(never)]
+    fn more_len(&self, bits: PlacedBits<'_>, first: u64) -> Option<u64> {
+        let mut len = first;
         let mut at = 1;
         while at < self.count as usize {
             let pass = &self.pass[at];
             let from = len + u64::from(pass.skip);
-            len += pass.len(fields.bits().after(from).load())?;
+            len += pass.len(bits.after(from).load())?;
             at += 1;
         }
         Some(len + u64::from(self.after))

@@ -11,7 +11,7 @@ ghost use Rattle.bit_fields.specs.PlacedView.{loaded, placed};
 
 use crate::buffered::{Buffered, BufferedParts};
 use crate::placed::{ChunkTops, LoadedBits, PlacedBits};
-use crate::six_bits::numbers_in;
+use crate::six_bits::numbers_by;
 use crate::width::ChunkWidth;
 use crate::word::eight_of;
 
@@ -110,6 +110,11 @@ impl<'a> PlacedBits<'a> {
         ensures has { IfSome result (λ len. HasNumbers n 1 (placed self.entry) len) }
         ensures some { IfSome result (λ len. 0 < len) }
     {
+        if n == 6 {
+            if let Some(len) = self.long_six() {
+                return Some(len);
+            }
+        }
         let buffered = Buffered::of(
             &self.bytes[(self.at >> 3) as usize..],
             self.start + (self.at & !7),
@@ -123,27 +128,31 @@ impl<'a> PlacedBits<'a> {
         Some(bits)
     }
 
-    /// The length of this many numbers in chunks of six bits, if they are there.
-    #[inline(never)]
-    pub fn all_sixes(self, count: u64) -> Option<u64>
-        ensures { IfSome result (λ len. HasNumbers 6 count (placed self.entry) len) }
-    {
-        let mut bits = self;
-        let mut left = count;
-        while left > 0 {
-            if !bits.has(64) {
-                return None;
-            }
-            let (some, len) = numbers_in(!bits.ends(), left.min(32));
-            if some > 0 {
-                left -= some;
-                bits = bits.after(u64::from(len));
-            } else {
-                left -= 1;
-                bits = bits.after(bits.long(6)?);
-            }
+    #[inline(always)]
+    fn long_six(self) -> Option<u64> {
+        if !self.has(128) || self.ends() & 0o404040404040404040 != 0 {
+            return None;
         }
-        Some(bits.at - self.at)
+        let more = self.after(54).ends();
+        if more & 0o40 != 0 {
+            return Some(60);
+        }
+        if more & 0o4000 != 0 {
+            return Some(66);
+        }
+        if more & 0o400000 != 0 {
+            return Some(72);
+        }
+        if more & 0o40000000 != 0 && !more >> 18 & 31 < 16 {
+            return Some(78);
+        }
+        None
+    }
+
+    #[inline(always)]
+    pub fn all_sixes(self, count: u64) -> Option<u64> {
+        let len = sixes_from(self.bytes, self.at, count);
+        if len == u64::MAX { None } else { Some(len) }
     }
 
     /// The same of numbers in chunks of any width, if so many bits more are there.
@@ -170,4 +179,34 @@ impl<'a> PlacedBits<'a> {
         }
         Some(bits.at - self.at)
     }
+}
+
+#[inline(never)]
+fn sixes_from(bytes: &[u8], at: u64, count: u64) -> u64 {
+    let mut bits = PlacedBits { bytes, start: 0, at };
+    let mut left = count;
+    while left > 0 {
+        if !bits.has(64) {
+            return u64::MAX;
+        }
+        let (some, len) = numbers_by(bits.ends(), left.min(32));
+        if some > 0 {
+            left -= some;
+            bits = bits.after(u64::from(len));
+        } else {
+            return sixes_behind(bytes, bits.at, left, at);
+        }
+    }
+    bits.at - at
+}
+
+#[cold]
+#[inline(never)]
+fn sixes_behind(bytes: &[u8], from: u64, count: u64, at: u64) -> u64 {
+    let bits = PlacedBits { bytes, start: 0, at: from };
+    let Some(len) = bits.long(6) else {
+        return u64::MAX;
+    };
+    let rest = sixes_from(bytes, from + len, count - 1);
+    if rest == u64::MAX { rest } else { from + len + rest - at }
 }

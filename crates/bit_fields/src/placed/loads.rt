@@ -7,7 +7,7 @@ ghost use Rattle.bit_fields.specs.Placed.{HasNumbers};
 ghost use Rattle.bit_fields.specs.PlacedView.{loaded, placed};
 
 use crate::placed::{ChunkTops, LoadedBits, PlacedBits};
-use crate::six_bits::end_of;
+use crate::six_bits::end_by;
 
 impl<'a> LoadedBits<'a> {
     /// The position of the first bit.
@@ -66,7 +66,7 @@ impl<'a> LoadedBits<'a> {
         requires few { count ≤ 9 }
         ensures { IfSome result (λ len. HasNumbers 6 count (loaded self.entry) len) }
     {
-        let len = end_of(!self.ends, count)?;
+        let len = end_by(self.ends, count)?;
         Some(u64::from(len))
     }
 
