@@ -16,6 +16,7 @@ ghost use Rattle.bit_norm.specs.InFront.{ComparesBehind, Concludes, Matches};
 
 use crate::comparing::{SameFault, Which, faulty};
 use crate::differences::{Difference, Place, Standing, ValueDifference, What};
+use crate::magics::{magic_bit, magic_standing};
 use crate::sign::Sign;
 use crate::walk::{Walk, one_more};
 use crate::writing::number_of_magic;
@@ -25,7 +26,7 @@ use bit_events::{
     RunCounter, SliceEvents, Uncounted, fold, pass_records,
 };
 use bit_fields::{
-    ExpectedValues, Fault, Head, Limits, PackedValues, PlacedBits, SliceSource, Source, Wrapper,
+    ExpectedValues, Fault, Head, Limits, PackedValues, PlacedBits, SliceSource, Source,
 };
 use bit_tree::Info;
 use std::alloc::{AllocError, Global};
@@ -696,35 +697,6 @@ impl<'a> Gatherer for Comparer<'a> {
             return self.take(Sign::Ends, bit, after);
         }
         Ok(())
-    }
-}
-
-/// The first bit of a byte of the input.
-fn first_bit(byte: u32) -> u64
-    ensures bit { result ≡ 8 * byte }
-    ensures fits { result < 2 ^ 35 }
-{
-    8 * u64::from(byte)
-}
-
-/// The bit at which the magic of a stream begins.
-fn magic_bit(head: &Head) -> u64
-    ensures bit { result ≡ tree.magic_bit (head_told head.now) }
-    ensures fits { result < 2 ^ 35 }
-{
-    match head.wrapper {
-        None => 0,
-        Some(Wrapper { offset, .. }) => first_bit(offset),
-    }
-}
-
-/// What comes before the blocks, if the magics of two streams differ.
-fn magic_standing(head: &Head) -> Standing
-    ensures { tree.standing_shown result ≡ tree.magic_standing (head_told head.now) }
-{
-    Standing {
-        bit: magic_bit(head),
-        what: What::Magic(head.magic),
     }
 }
 

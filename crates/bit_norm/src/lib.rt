@@ -38,6 +38,7 @@ mod input_tests;
 #[cfg(test)]
 mod lendings;
 mod lengths;
+mod magics;
 mod normalising;
 mod rejoined;
 #[cfg(test)]
