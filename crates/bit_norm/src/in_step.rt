@@ -1,10 +1,9 @@
 //! An input that is read in step with the bytes of another one.
 
-ghost use Rattle.std.specs.Prelude.{◌≡◌, ◌*◌, ◌<◌, ◌≤◌, ◌^◌, IfOk, OnOk, IfSome, IfNone, None, length};
+ghost use Rattle.std.specs.Prelude.{◌≡◌, ◌<◌, ◌≤◌, IfOk, OnOk, IfSome, IfNone, None, length};
 ghost use Rattle.bit_grammar.specs.Setting.{setting_of};
 ghost use Rattle.bit_grammar.specs.Marks.{RecordMark};
 ghost use Rattle.bit_grammar.specs.Machine.{Opened, enters, leaves, notes};
-ghost use Rattle.bit_norm.specs.Entries as tree;
 ghost use Rattle.bit_norm.specs.Entries.{has_record, standing_shown, the_record, value_apart, what_of};
 ghost use Rattle.bit_events.specs.EventView.{event_shown};
 ghost use Rattle.bit_events.specs.Standing.{stands_after};
