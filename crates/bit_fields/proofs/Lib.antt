@@ -31,4 +31,5 @@ pub mod SixBitSums
 pub mod SixBitForms
 pub mod EndMarks
 pub mod Placing
+pub mod LongSixes
 pub mod PlainRecords

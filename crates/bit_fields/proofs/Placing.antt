@@ -283,13 +283,23 @@ has_begun count len ends a few there is begins =
     let all : a.bits ≡ take len (bits_of 54 word) ++ drop len a.bits = sym (take-append-drop len a.bits) ∙ ap (λ (s : List Bool). s ++ drop len a.bits) (sym front) in
     (there, (run.0, run.1, ap (reading (repeat count (vbr 6)) a.position) all ∙ run.2))
 
-pub has_sixes : (count len ends : ℕ) (a : BufferedBits) → ends < 2 ^ 64 → 0 < len → len ≤ 54 → Shows ends a.bits → bit_at (bit_not w64 ends) (len - 1) ≡ 0 → Begins (bit_not w64 ends) count len → HasNumbers 6 count a len
-has_sixes count len ends a fits some few shows off begins =
-    let set : bit_at ends (len - 1) ≡ 1 = omega (arith, bit_at_not w64 ends (len - 1) fits (omega (arith, few)), off, bit_at-lt ends (len - 1)) in
+pub has_sixes : (count len ends : ℕ) (a : BufferedBits) → 0 < len → len ≤ 54 → Shows ends a.bits → bit_at ends (len - 1) ≡ 1 → Begins (bit_not w64 ends) count len → HasNumbers 6 count a len
+has_sixes count len ends a some few shows set begins =
     let next : suc (len - 1) ≡ len = omega (arith, some) in
     has_begun count len ends a few (omega (arith, shows.there (len - 1) set)) (subst (λ (k : ℕ). bits_of k (bit_not w64 ends) ≡ take k a.bits) next (shows.front (len - 1) set)) begins
 
 -- ---- a loop over numbers
+
+further_on : (start from at : ℕ) (bytes : List ℕ) → from ≤ at → bits_at start at bytes ≡ beyond (bits_at start from bytes) (at - from)
+further_on start from at bytes on =
+    let s : List Bool = bits_of_bytes bytes in
+    let sum : from + (at - from) ≡ at = omega (arith, on) in
+    parts_is (start + at) (start + from + (at - from)) (drop at s) (drop (at - from) (drop from s)) (omega (arith, on)) (sym (drop_more from (at - from) s ∙ ap (λ (k : ℕ). drop k s) sum))
+
+-- numbers up to a place in the bytes, and some more from there
+pub has_more : (n i j k len start from at to : ℕ) (bytes : List ℕ) → k ≡ i + j → from ≤ at → to ≡ at + len → HasNumbers n i (bits_at start from bytes) (at - from) → HasNumbers n j (bits_at start at bytes) len → HasNumbers n k (bits_at start from bytes) (to - from)
+has_more n i j k len start from at to bytes k_is on to_is first later =
+    has_both n i j k (at - from) len (to - from) (bits_at start from bytes) k_is (omega (arith, on, to_is)) first (subst (λ (a : BufferedBits). HasNumbers n j a len) (further_on start from at bytes on) later)
 
 -- some more numbers were passed
 pub further : (n count left some len start from here to s t : ℕ) (bytes others more : List ℕ) → left ≤ count → some ≤ left → s ≡ start → t ≡ s → from ≤ here → bits_at s here others ≡ beyond (bits_at start from bytes) (here - from) → bits_at t to more ≡ beyond (bits_at s here others) len
@@ -305,7 +315,7 @@ further n count left some len start from here to s t bytes others more few enoug
 
 -- ---- a short number in chunks of six bits
 
-set_bit : (x k : ℕ) → (bit_and x (2 ^ k) ≡ 0 → ⊥) → bit_at x k ≡ 1
+pub set_bit : (x k : ℕ) → (bit_and x (2 ^ k) ≡ 0 → ⊥) → bit_at x k ≡ 1
 set_bit x k some = one (bit_at x k) (bit_at-lt x k) (λ none. some (and_pow x k ∙ none))
   where
     one : (b : ℕ) → b < 2 → (b * 2 ^ k ≡ 0 → ⊥) → b ≡ 1
@@ -313,7 +323,7 @@ set_bit x k some = one (bit_at x k) (bit_at-lt x k) (λ none. some (and_pow x k 
     one (suc zero) lt some = refl
     one (suc (suc b)) lt some = absurd (omega (arith, lt))
 
-clear_bit : (x k : ℕ) → bit_and x (2 ^ k) ≡ 0 → bit_at x k ≡ 0
+pub clear_bit : (x k : ℕ) → bit_and x (2 ^ k) ≡ 0 → bit_at x k ≡ 0
 clear_bit x k none = off (bit_at x k) (sym (and_pow x k) ∙ none)
   where
     off : (b : ℕ) → b * 2 ^ k ≡ 0 → b ≡ 0

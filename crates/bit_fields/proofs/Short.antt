@@ -139,24 +139,39 @@ first_reads payload first permitted places held word p rest there =
     sym (chunk_step payload first permitted places p (w ++ rest))
     ∙ rw (part_at (suc payload) first p w rest many, chunk, behind) refl
 
-pub short_reads : (count payload first permitted places held word p : ℕ) (rest : List Bool) → EndsChunks payload count word → count ≤ permitted → count * suc payload ≤ held → count * payload ≤ places
-    → reading (chunks payload first permitted places) p (bits_of held word ++ rest) ≡ Ok (payload_number payload count word, p + count * suc payload, drop (count * suc payload) (bits_of held word) ++ rest)
-short_reads zero payload first permitted places held word p rest ends few there fits = absurd ends
-short_reads (suc zero) payload first zero places held word p rest ends few there fits = absurd (omega (arith, few))
-short_reads (suc zero) payload first (suc permitted) places held word p rest ends few there fits =
+-- a number whose last payload, after `count` others, fits into the places that these leave
+pub fitting_reads : (count payload first permitted places held word p : ℕ) (rest : List Bool) → EndsChunks payload (suc count) word → suc count ≤ permitted → suc count * suc payload ≤ held → count * payload ≤ places → word / 2 ^ (count * suc payload) % 2 ^ payload < 2 ^ (places - count * payload)
+    → reading (chunks payload first permitted places) p (bits_of held word ++ rest) ≡ Ok (payload_number payload (suc count) word, p + suc count * suc payload, drop (suc count * suc payload) (bits_of held word) ++ rest)
+fitting_reads zero payload first zero places held word p rest ends few there fits last = absurd (omega (arith, few))
+fitting_reads zero payload first (suc permitted) places held word p rest ends few there fits last =
+    let none : 0 * suc payload ≡ 0 = omega arith in
+    let all : places - 0 * payload ≡ places = omega arith in
+    let whole : word / 2 ^ (0 * suc payload) ≡ word = ap (λ (k : ℕ). word / 2 ^ k) none ∙ (let e : word / 2 ^ 0 ≡ word = omega arith in e) in
+    let here : word % 2 ^ payload < 2 ^ places = subst (λ (k : ℕ). word % 2 ^ payload < 2 ^ k) all (subst (λ (x : ℕ). x % 2 ^ payload < 2 ^ (places - 0 * payload)) whole last) in
     let behind : bits_of (held - suc payload) (word / 2 ^ suc payload) ≡ drop (suc payload) (bits_of held word) = window_rest held word (suc payload) (bits_of held word) (omega (arith, there)) refl in
     let value : word % 2 ^ payload ≡ payload_number payload 1 word = omega arith in
     let bits : 1 * suc payload ≡ suc payload = omega arith in
     first_reads payload first permitted places held word p rest (omega (arith, there))
-    ∙ rw (payload_is payload word, ends_there payload word ends, fits_places payload places word (omega (arith, fits)), behind, bits, ← value) refl
-short_reads (suc (suc count)) payload first zero places held word p rest ends few there fits = absurd (omega (arith, few))
-short_reads (suc (suc count)) payload first (suc permitted) places held word p rest ends few there fits =
+    ∙ rw (payload_is payload word, ends_there payload word ends, lt-ltb (word % 2 ^ payload) (2 ^ places) here, behind, bits, ← value) refl
+fitting_reads (suc count) payload first zero places held word p rest ends few there fits last = absurd (omega (arith, few))
+fitting_reads (suc count) payload first (suc permitted) places held word p rest ends few there fits last =
+    let left : places - suc count * payload ≡ places - payload - count * payload = omega arith in
+    let deeper : word / 2 ^ (suc count * suc payload) ≡ word / 2 ^ suc payload / 2 ^ (count * suc payload) = ap (λ (k : ℕ). word / 2 ^ k) (let e : suc count * suc payload ≡ suc payload + count * suc payload = omega arith in e) ∙ sym (shr-shr word (suc payload) (count * suc payload)) in
+    let last_there : word / 2 ^ suc payload / 2 ^ (count * suc payload) % 2 ^ payload < 2 ^ (places - payload - count * payload) = subst (λ (k : ℕ). word / 2 ^ suc payload / 2 ^ (count * suc payload) % 2 ^ payload < 2 ^ k) left (subst (λ (x : ℕ). x % 2 ^ payload < 2 ^ (places - suc count * payload)) deeper last) in
     let behind : bits_of (held - suc payload) (word / 2 ^ suc payload) ≡ drop (suc payload) (bits_of held word) = window_rest held word (suc payload) (bits_of held word) (omega (arith, there)) refl in
-    let later = short_reads (suc count) payload first permitted (places - payload) (held - suc payload) (word / 2 ^ suc payload) (p + suc payload) rest ends.1 (omega (arith, few)) (omega (arith, there)) (omega (arith, fits)) in
+    let later = fitting_reads count payload first permitted (places - payload) (held - suc payload) (word / 2 ^ suc payload) (p + suc payload) rest ends.1 (omega (arith, few)) (omega (arith, there)) (omega (arith, fits)) last_there in
     let dropped : drop (suc count * suc payload) (bits_of (held - suc payload) (word / 2 ^ suc payload)) ≡ drop (suc (suc count) * suc payload) (bits_of held word) = ap (drop (suc count * suc payload)) behind ∙ drop_more (suc payload) (suc count * suc payload) (bits_of held word) ∙ ap (λ (k : ℕ). drop k (bits_of held word)) {y = suc (suc count) * suc payload} (omega arith) in
     let place : p + suc payload + suc count * suc payload ≡ p + suc (suc count) * suc payload = omega arith in
     first_reads payload first permitted places held word p rest (omega (arith, there))
     ∙ rw (payload_is payload word, goes_there payload word ends.0, fits_places payload places word (omega (arith, fits)), later, dropped, place) refl
+
+pub short_reads : (count payload first permitted places held word p : ℕ) (rest : List Bool) → EndsChunks payload count word → count ≤ permitted → count * suc payload ≤ held → count * payload ≤ places
+    → reading (chunks payload first permitted places) p (bits_of held word ++ rest) ≡ Ok (payload_number payload count word, p + count * suc payload, drop (count * suc payload) (bits_of held word) ++ rest)
+short_reads zero payload first permitted places held word p rest ends few there fits = absurd ends
+short_reads (suc count) payload first permitted places held word p rest ends few there fits =
+    let last : ℕ = word / 2 ^ (count * suc payload) in
+    let wide : 2 ^ payload ≤ 2 ^ (places - count * payload) = pow_mono {i = payload} {j = places - count * payload} (omega (arith, fits)) in
+    fitting_reads count payload first permitted places held word p rest ends few there (omega (arith, fits)) (omega (arith, wide, mod_below last (2 ^ payload) (pow_pos payload)))
 
 -- ---- four chunks at most
 

@@ -1,10 +1,10 @@
 -- The numbers that end in each chunk of six bits of a word, counted by one product.
 use Rattle.std.proofs.Common.{◌≡◌, ℕ, zero, suc, ◌+◌, ◌*◌, ◌-◌, ◌/◌, ◌%◌, ◌^◌, ◌<◌, ◌≤◌, Bool, true, false, eqb, List, [], ◌∷◌, length, refl, sym, ap, ◌∙◌, subst, arith, bit_and, inl, inr}
-use Rattle.std.specs.Int.{w64, bit_at, trailing_zeros}
+use Rattle.std.specs.Int.{w64, bit_at, bit_not, trailing_zeros}
 use Rattle.std.proofs.lemmas.Bool.{cases_lt, eqb-true}
 use Rattle.std.proofs.lemmas.Nat.{shr-shr, pow-add, pow_pos, and_block, and-not, and_le_r, and_mask, and_mod, mod_low, leading_length, shl-shr}
 use Rattle.std.specs.Int.Count.{count_leading_zeros}
-use Rattle.std.proofs.lemmas.Nat.Bits.{and_pow, bit_at-trailing_zeros}
+use Rattle.std.proofs.lemmas.Nat.Bits.{and_pow, bit_at_not, bit_at-lt, bit_at-trailing_zeros}
 use Rattle.std.proofs.Math.Nat.{mod-eq_of_lt}
 use Rattle.std.proofs.Math.Pow.{pow_mono, mod-mod-pow}
 use Rattle.bit_grammar.specs.Bits.{bit}
@@ -340,8 +340,12 @@ pub record Summed (word ends sum total : ℕ) : Type 0 where
 abbrev pub ends_in : (word : ℕ) → ℕ
 ends_in word = bit_and (2 ^ 64 - 1 - word) (tops 9)
 
+-- of the top bits that mark the ends
+abbrev pub sum_of : (marks : ℕ) → ℕ
+sum_of marks = bit_and (marks / 2 ^ 5 * ones 9 % 2 ^ 64) (2 ^ 54 - 1)
+
 abbrev pub sum_in : (word : ℕ) → ℕ
-sum_in word = bit_and (ends_in word / 2 ^ 5 * ones 9 % 2 ^ 64) (2 ^ 54 - 1)
+sum_in word = sum_of (ends_in word)
 
 pub summed : (word : ℕ) → word < 2 ^ 64 → Summed word (ends_in word) (sum_in word) (sum_in word / 2 ^ 48)
 summed word fits = record { fits = fits; ends_are = refl; sum_is = refl; total_is = refl }
@@ -396,9 +400,9 @@ some_ran most s some fewer = (some_ended most s some (omega (arith, fewer))).0
 
 -- ---- the chunk where enough numbers have ended, if there is one
 
--- the code's term
-abbrev pub reached_in : (word count : ℕ) → ℕ
-reached_in word count = bit_and ((ends_in word / 2 ^ 5 * ones 9 % 2 ^ 64 + (32 - count) * ones 9 % 2 ^ 64) % 2 ^ 64) (tops 9)
+-- the code's term, of the top bits that mark the ends
+abbrev pub reached_in : (marks count : ℕ) → ℕ
+reached_in marks count = bit_and ((marks / 2 ^ 5 * ones 9 % 2 ^ 64 + (32 - count) * ones 9 % 2 ^ 64) % 2 ^ 64) (tops 9)
 
 tops_cut : (x : ℕ) → bit_and x (tops 9) ≡ bit_and (x % 2 ^ 54) (tops 9)
 tops_cut x =
@@ -411,12 +415,12 @@ sums_cut x r sum is small =
     let parts : (x + r) % 2 ^ 54 ≡ (sum + r) % 2 ^ 54 = omega (arith, is) in
     ap (λ (y : ℕ). (x + y) % 2 ^ 64 % 2 ^ 54) whole ∙ mod-mod-pow (x + r) 10 54 ∙ parts
 
-reached_is : (word count : ℕ) → reached_in word count ≡ bit_and (sum_in word + (32 - count) * ones 9) (tops 9)
-reached_is word count =
-    let x : ℕ = ends_in word / 2 ^ 5 * ones 9 % 2 ^ 64 in
+reached_is : (marks count : ℕ) → reached_in marks count ≡ bit_and (sum_of marks + (32 - count) * ones 9) (tops 9)
+reached_is marks count =
+    let x : ℕ = marks / 2 ^ 5 * ones 9 % 2 ^ 64 in
     let r : ℕ = (32 - count) * ones 9 in
     let small : r < 2 ^ 64 = omega arith in
-    tops_cut ((x + r % 2 ^ 64) % 2 ^ 64) ∙ ap (λ (y : ℕ). bit_and y (tops 9)) (sums_cut x r (sum_in word) (and_mask x 54) small) ∙ sym (tops_cut (sum_in word + r))
+    tops_cut ((x + r % 2 ^ 64) % 2 ^ 64) ∙ ap (λ (y : ℕ). bit_and y (tops 9)) (sums_cut x r (sum_of marks) (and_mask x 54) small) ∙ sym (tops_cut (sum_of marks + r))
 
 none_reached : (ends : List Bool) (before most rest : ℕ) → before + ended ends < most → rest + most ≡ 32 → bit_and (sums before ends + rest * ones (length ends)) (tops (length ends)) ≡ 0
 none_reached [] before most rest few is = nothing (bit_and (0 + rest * 0) 0) (and_le_r (0 + rest * 0) 0)
@@ -431,15 +435,29 @@ none_reached (last ∷ ends) before most rest few is =
     let later : bit_and x (tops (length ends)) ≡ 0 = none_reached ends (before + bit last) most rest (omega (arith, few)) is in
     ap (λ (y : ℕ). bit_and y (tops (suc (length ends)))) (raised_step (sums (before + bit last) ends) rest (ones (length ends)) (before + bit last)) ∙ tops_apart (length ends) x low (omega (arith, lt)) ∙ rw (off, later) refl
 
-pub end_ran : (word count : ℕ) → word < 2 ^ 64 → 0 < count → count ≤ 32 → (reached_in word count ≡ 0 → ⊥) → Ran word count (trailing_zeros w64 (reached_in word count) + 1) × (bit_at word (trailing_zeros w64 (reached_in word count)) ≡ 0)
-end_ran word count fits some few reached =
-    let s = summed word fits in
-    let total : ℕ = sum_in word / 2 ^ 48 in
-    let is : reached_in word count ≡ bit_and (sum_in word + (32 - count) * ones 9) (tops 9) = reached_is word count in
-    subst (λ (x : ℕ). Ran word count (trailing_zeros w64 x + 1) × (bit_at word (trailing_zeros w64 x) ≡ 0)) (sym is) (some_ended count s some (enough s total refl is))
+-- of a word whose complement this is
+summed_of : (ends : ℕ) → ends < 2 ^ 64 → Summed (bit_not w64 ends) (bit_and ends (tops 9)) (sum_of (bit_and ends (tops 9))) (sum_of (bit_and ends (tops 9)) / 2 ^ 48)
+summed_of ends fits =
+    let same : ends ≡ 2 ^ 64 - 1 - bit_not w64 ends = omega (arith, fits) in
+    record { fits = omega arith; ends_are = ap (λ (x : ℕ). bit_and x (tops 9)) same; sum_is = refl; total_is = refl }
+
+pub end_ran : (ends count : ℕ) → ends < 2 ^ 64 → 0 < count → count ≤ 32 → (reached_in (bit_and ends (tops 9)) count ≡ 0 → ⊥)
+    → Ran (bit_not w64 ends) count (trailing_zeros w64 (reached_in (bit_and ends (tops 9)) count) + 1) × (bit_at ends (trailing_zeros w64 (reached_in (bit_and ends (tops 9)) count)) ≡ 1)
+end_ran ends count fits some few reached = ran_to (bit_and ends (tops 9)) (sum_of (bit_and ends (tops 9)) / 2 ^ 48) (summed_of ends fits) reached
   where
-    enough : Summed word (ends_in word) (sum_in word) (sum_in word / 2 ^ 48) → (total : ℕ) → total ≡ sum_in word / 2 ^ 48 → reached_in word count ≡ bit_and (sum_in word + (32 - count) * ones 9) (tops 9) → count ≤ sum_in word / 2 ^ 48
-    enough s total total_is is = elim (cases_lt total count) [
-      | inl lt ↦ absurd (reached (is ∙ ap (λ (y : ℕ). bit_and (y + (32 - count) * ones 9) (tops 9)) (sums_of s) ∙ none_reached (lasts 9 word) 0 count (32 - count) (omega (arith, lt, total_is, total_of s)) (omega (arith, few))))
-      | inr le ↦ omega (arith, le, total_is)
+    word : ℕ
+    word = bit_not w64 ends
+
+    enough : (marks total : ℕ) → Summed word marks (sum_of marks) total → (reached_in marks count ≡ 0 → ⊥) → count ≤ total
+    enough marks total s reached = elim (cases_lt total count) [
+      | inl lt ↦ absurd (reached (reached_is marks count ∙ ap (λ (y : ℕ). bit_and (y + (32 - count) * ones 9) (tops 9)) (sums_of s) ∙ none_reached (lasts 9 word) 0 count (32 - count) (omega (arith, lt, total_of s)) (omega (arith, few))))
+      | inr le ↦ le
     ]
+
+    last : (t : ℕ) → Ran word count (t + 1) → bit_at word t ≡ 0 → bit_at ends t ≡ 1
+    last t r off = omega (arith, bit_at_not w64 ends t fits (omega (arith, r.within)), off, bit_at-lt ends t)
+
+    ran_to : (marks total : ℕ) → Summed word marks (sum_of marks) total → (reached_in marks count ≡ 0 → ⊥) → Ran word count (trailing_zeros w64 (reached_in marks count) + 1) × (bit_at ends (trailing_zeros w64 (reached_in marks count)) ≡ 1)
+    ran_to marks total s reached =
+        let r = subst (λ (x : ℕ). Ran word count (trailing_zeros w64 x + 1) × (bit_at word (trailing_zeros w64 x) ≡ 0)) (sym (reached_is marks count)) (some_ended count s some (enough marks total s reached)) in
+        (r.0, last (trailing_zeros w64 (reached_in marks count)) r.0 r.1)

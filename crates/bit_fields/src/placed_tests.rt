@@ -1,9 +1,13 @@
 //! Lengths of numbers in placed bits, at each bit of a byte.
 
+ghost use Rattle.std.specs.Prelude.{◌≤◌, length};
+
 use crate::{BufferedParts, ChunkTops, ChunkWidth, LoadedBits, PlacedBits};
 
 /// A load of the bits after the first `first`, if 64 are there.
-fn loaded_at(bytes: &[u8; 16], first: u64) -> Option<LoadedBits<'_>> {
+fn loaded_at(bytes: &[u8], first: u64) -> Option<LoadedBits<'_>>
+    requires { length bytes.now ≤ 64 }
+{
     let parts = BufferedParts {
         word: 0,
         held: 0,
@@ -55,6 +59,50 @@ fn numbers_of_one_to_thirteen_chunks(rt: HostRuntime) {
                 }
                 None => panic!(rt; "64 bits are there"),
             }
+        }
+    }
+}
+
+/// The last chunks of numbers of 1, 10, 2, 11, 3, 12, 1, 13 and 4 chunks, one after another.
+const LASTS: [u8; 9] = [0, 10, 12, 23, 26, 38, 39, 52, 56];
+
+/// These numbers, from bit `first` on. All have the same last payload, and ones in the chunks before it.
+fn mixed_numbers(first: usize, last: u8) -> [u8; 64] {
+    let mut bytes = [0; 64];
+    for chunk in 0..57u8 {
+        let value = if LASTS.contains(&chunk) {
+            last.min(31)
+        } else {
+            63
+        };
+        let bit = first.min(7) + 6 * usize::from(chunk);
+        let moved = u16::from(value) << (bit % 8);
+        bytes[bit / 8] |= (moved & 255) as u8;
+        bytes[bit / 8 + 1] |= (moved >> 8) as u8;
+    }
+    bytes
+}
+
+#[test]
+fn long_numbers_among_short_ones(rt: HostRuntime) {
+    for first in 0..8usize {
+        // the number of 13 chunks has 64 bits, and one more
+        let within = mixed_numbers(first, 15);
+        let beyond = mixed_numbers(first, 16);
+        match (
+            loaded_at(&within, first as u64),
+            loaded_at(&beyond, first as u64),
+        ) {
+            (Some(within), Some(beyond)) => {
+                for (before, last) in LASTS.iter().enumerate() {
+                    let count = before as u64 + 1;
+                    let len = Some(6 * (u64::from(*last) + 1));
+                    assert!(rt; within.bits().all_sixes(count) == len);
+                    let told = if count < 8 { len } else { None };
+                    assert!(rt; beyond.bits().all_sixes(count) == told);
+                }
+            }
+            _ => panic!(rt; "64 bits are there"),
         }
     }
 }

@@ -4,14 +4,14 @@
 //! digits a chunk. Sums and products are of all chunks at once: no chunk's sum reaches 64, so none carries into the next one.
 
 ghost use Rattle.std.specs.Prelude.{◌≡◌, ◌*◌, ◌-◌, ◌<◌, ◌≤◌, true, IfSome};
-ghost use Rattle.std.specs.Int.{bit_at};
+ghost use Rattle.std.specs.Int.{w64, bit_at, bit_not};
 ghost use Rattle.bit_fields.specs.SixBits.{Begins, NoneFollows, Shortest};
 
 /// The lowest bit of each chunk.
 const ONES: u64 = 0o01_01_01_01_01_01_01_01_01;
 
 /// The top bit of each chunk.
-const TOPS: u64 = 0o40_40_40_40_40_40_40_40_40;
+pub(crate) const TOPS: u64 = 0o40_40_40_40_40_40_40_40_40;
 
 /// The other bits of each chunk, its payload.
 const PAYLOADS: u64 = 0o37_37_37_37_37_37_37_37_37;
@@ -46,18 +46,17 @@ pub(crate) fn numbers_in(word: u64, most: u64) -> (u64, u32)
     }
 }
 
-/// The bit after this many numbers, if the nine chunks have so many.
+/// The bit after this many numbers of the nine chunks whose complement this is, if they have so many.
 #[inline(always)]
-pub(crate) fn end_of(word: u64, count: u64) -> Option<u32>
+pub(crate) fn end_of(ends: u64, count: u64) -> Option<u32>
     requires some { 0 < count }
     requires few { count ≤ 32 }
-    ensures reads { IfSome result (λ bits. Begins word count bits) }
+    ensures reads { IfSome result (λ bits. Begins (bit_not w64 ends) count bits) }
     ensures some { IfSome result (λ bits. 0 < bits) }
     ensures most { IfSome result (λ bits. bits ≤ 54) }
-    ensures last { IfSome result (λ bits. bit_at word (bits - 1) ≡ 0) }
+    ensures last { IfSome result (λ bits. bit_at ends (bits - 1) ≡ 1) }
 {
-    let ends = !word & TOPS;
-    let sums = (ends >> 5).wrapping_mul(ONES);
+    let sums = ((ends & TOPS) >> 5).wrapping_mul(ONES);
     // the top bit of each chunk where so many numbers have ended
     let reached = sums.wrapping_add((32 - count).wrapping_mul(ONES)) & TOPS;
     if reached == 0 {

@@ -1,17 +1,17 @@
 //! Placed bits: where they are, loads of them, and how long numbers in them are.
 
-ghost use Rattle.std.specs.Prelude.{ℕ, ◌≡◌, ◌+◌, ◌-◌, ◌<◌, ◌≤◌, length, take, true, IfSome};
+ghost use Rattle.std.specs.Prelude.{ℕ, ◌≡◌, ◌+◌, ◌-◌, ◌*◌, ◌^◌, ◌<◌, ◌≤◌, length, take, true, IfSome};
 ghost use Rattle.std.specs.Int.{w64, bit_not};
 ghost use Rattle.bit_grammar.specs.Bits.{bits_of};
 ghost use Rattle.bit_grammar.specs.Fields.{fixed};
 ghost use Rattle.bit_fields.specs.Buffered.{Reads, beyond};
 ghost use Rattle.bit_fields.specs.BufferedParts.{bits_of_parts, AreParts};
-ghost use Rattle.bit_fields.specs.Placed.{HasNumbers, Shows};
+ghost use Rattle.bit_fields.specs.Placed.{HasNumbers, Shows, bits_at};
 ghost use Rattle.bit_fields.specs.PlacedView.{loaded, placed};
 
 use crate::buffered::{Buffered, BufferedParts};
 use crate::placed::{ChunkTops, LoadedBits, PlacedBits};
-use crate::six_bits::numbers_in;
+use crate::six_bits::{TOPS, numbers_in};
 use crate::width::ChunkWidth;
 use crate::word::eight_of;
 
@@ -110,6 +110,11 @@ impl<'a> PlacedBits<'a> {
         ensures has { IfSome result (λ len. HasNumbers n 1 (placed self.entry) len) }
         ensures some { IfSome result (λ len. 0 < len) }
     {
+        if n == 6 {
+            if let Some(len) = self.long_six() {
+                return Some(len);
+            }
+        }
         let buffered = Buffered::of(
             &self.bytes[(self.at >> 3) as usize..],
             self.start + (self.at & !7),
@@ -123,27 +128,69 @@ impl<'a> PlacedBits<'a> {
         Some(bits)
     }
 
+    /// The length of a number of ten to thirteen chunks of six bits, if 128 bits are there.
+    #[inline(always)]
+    fn long_six(self) -> Option<u64>
+        ensures has { IfSome result (λ len. HasNumbers 6 1 (placed self.entry) len) }
+        ensures some { IfSome result (λ len. 0 < len) }
+    {
+        if !self.has(128) || self.ends() & TOPS != 0 {
+            return None;
+        }
+        let ends = self.after(54).ends();
+        if ends & 0o40 != 0 {
+            return Some(60);
+        }
+        if ends & 0o40_00 != 0 {
+            return Some(66);
+        }
+        if ends & 0o40_00_00 != 0 {
+            return Some(72);
+        }
+        // the chunk ends the number, and its fifth bit, the number's bit 64, is 0
+        if ends & 0o60_00_00_00 == 0o60_00_00_00 {
+            return Some(78);
+        }
+        None
+    }
+
     /// The length of this many numbers in chunks of six bits, if they are there.
-    #[inline(never)]
+    #[inline(always)]
     pub fn all_sixes(self, count: u64) -> Option<u64>
         ensures { IfSome result (λ len. HasNumbers 6 count (placed self.entry) len) }
     {
-        let mut bits = self;
-        let mut left = count;
+        let (at, left) = pass_sixes(self.bytes, self.at, count);
+        if left > 0 {
+            return self.more_sixes(count, at, left);
+        }
+        Some(at - self.at)
+    }
+
+    /// The same, if all but the last ones end at a place in the bytes. The first of these is long.
+    #[cold]
+    #[inline(never)]
+    fn more_sixes(self, count: u64, from: u64, last: u64) -> Option<u64>
+        requires less { last ≤ count }
+        requires on { self.at ≤ from }
+        requires there { from ≤ 8 * length self.bytes.now }
+        requires has { HasNumbers 6 (count - last) (placed self) (from - self.at) }
+        ensures { IfSome result (λ len. HasNumbers 6 count (placed self.entry) len) }
+    {
+        let mut at = from;
+        let mut left = last;
         while left > 0 {
-            if !bits.has(64) {
+            let long = PlacedBits {
+                bytes: self.bytes,
+                start: self.start,
+                at,
+            };
+            if !long.has(64) {
                 return None;
             }
-            let (some, len) = numbers_in(!bits.ends(), left.min(32));
-            if some > 0 {
-                left -= some;
-                bits = bits.after(u64::from(len));
-            } else {
-                left -= 1;
-                bits = bits.after(bits.long(6)?);
-            }
+            at += long.long(6)?;
+            (at, left) = pass_sixes(self.bytes, at, left - 1);
         }
-        Some(bits.at - self.at)
+        Some(at - self.at)
     }
 
     /// The same of numbers in chunks of any width, if so many bits more are there.
@@ -170,4 +217,37 @@ impl<'a> PlacedBits<'a> {
         }
         Some(bits.at - self.at)
     }
+}
+
+/// Passes over numbers in chunks of six bits, from a place in bytes on, as long as they are not long and 64 bits are there: the
+/// place after them, and how many of so many are left. What it takes and gives back fits into registers.
+#[inline(never)]
+fn pass_sixes(bytes: &[u8], from: u64, count: u64) -> (u64, u64)
+    requires there { from ≤ 8 * length bytes.now }
+    requires fits { 8 * length bytes.now < 2 ^ 64 }
+    ensures on { from ≤ result.0 }
+    ensures there { result.0 ≤ 8 * length bytes.now }
+    ensures less { result.1 ≤ count }
+    ensures has { (start : ℕ) → HasNumbers 6 (count - result.1) (bits_at start from bytes.now)
+        (result.0 - from) }
+{
+    let mut at = from;
+    let mut left = count;
+    while left > 0 {
+        let bits = PlacedBits {
+            bytes,
+            start: 0,
+            at,
+        };
+        if !bits.has(64) {
+            return (at, left);
+        }
+        let (some, len) = numbers_in(!bits.ends(), left.min(32));
+        if some == 0 {
+            return (at, left);
+        }
+        left -= some;
+        at += u64::from(len);
+    }
+    (at, left)
 }

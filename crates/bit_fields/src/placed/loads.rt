@@ -66,7 +66,7 @@ impl<'a> LoadedBits<'a> {
         requires few { count ≤ 9 }
         ensures { IfSome result (λ len. HasNumbers 6 count (loaded self.entry) len) }
     {
-        let len = end_of(!self.ends, count)?;
+        let len = end_of(self.ends, count)?;
         Some(u64::from(len))
     }
 
