@@ -47,12 +47,29 @@ impl Passes {
             return Some(u64::from(self.after));
         }
         let first = &self.pass[0];
-        let mut len = first.len(fields.after(u32::from(first.skip)))?;
+        let len = first.len(fields.after(u32::from(first.skip)))?;
+        if self.count == 1 {
+            return Some(len + u64::from(self.after));
+        }
+        self.more_len(fields.bits(), len)
+    }
+
+    /// The same, if the first pass goes over so many bits, and others follow.
+    #[inline(never)]
+    fn more_len(&self, bits: PlacedBits<'_>, first: u64) -> Option<u64>
+        requires some { 1 ≤ self.now.count }
+        requires has { HasPasses (take 1 self.now.pass) (placed bits) first }
+        requires left { first + 1896 ≤ length (placed bits).bits }
+        ensures has { IfSome result (λ len. (passed : ℕ) × (len ≡ passed + self.now.after)
+            × HasPasses (take self.now.count self.now.pass) (placed bits.entry) passed) }
+        ensures left { IfSome result (λ len. len + 64 ≤ length (placed bits.entry).bits) }
+    {
+        let mut len = first;
         let mut at = 1;
         while at < self.count as usize {
             let pass = &self.pass[at];
             let from = len + u64::from(pass.skip);
-            len += pass.len(fields.bits().after(from).load())?;
+            len += pass.len(bits.after(from).load())?;
             at += 1;
         }
         Some(len + u64::from(self.after))
