@@ -360,10 +360,45 @@ pub(crate) fn buffered_from<'a>(parts: BufferedParts<'a>, first: u64, loaded: u6
 }
 
 /// Gathers records of a block that is no BLOCKINFO block from a bit on, as long as they are completely buffered, and returns the bit
-/// after the last one. The gatherer needs only the number of their values. Whether the last ones are read depends on where the window
-/// ends: so it ends at `loaded`, as that of an exact reader.
-#[inline(never)]
+/// after the last one. The gatherer needs only the number of their values.
+#[inline(always)]
 pub(crate) fn count_records<G: Gatherer>(
+    parts: BufferedParts<'_>,
+    start: u64,
+    loaded: u64,
+    frame: &Frame,
+    limits: &Limits,
+    used: &mut u64,
+    gatherer: &mut G,
+    values: &mut G::Values,
+) -> Result<u64, AllocError>
+    requires lawful { AreParts parts }
+    requires least { (bits_of_parts parts).position ≤ start }
+    requires there { start - (bits_of_parts parts).position ≤ length (bits_of_parts parts).bits }
+    requires took { TookSome G.Values.took values.old }
+    requires plain { frame.now.info ≡ None }
+    ensures took { TookSome G.Values.took values.new }
+    ensures gathers { IfOk result (λ after. GathersRun G.gathered limits.now frame.now used.old
+        (beyond (bits_of_parts parts.entry) (start - (bits_of_parts parts.entry).position))
+        gatherer.old used.new after gatherer.new) }
+    ensures stops { OnErr result (StopsRun G.gathered G.fails limits.now frame.now used.old
+        (beyond (bits_of_parts parts.entry) (start - (bits_of_parts parts.entry).position))
+        gatherer.old gatherer.new) }
+{
+    let plans = frame.definitions.plans();
+    let run = pass_placed(parts, start, frame, plans, limits, used, gatherer)?;
+    if run.is_over {
+        return Ok(run.after);
+    }
+    count_on(
+        parts, run.after, loaded, frame, limits, used, gatherer, values,
+    )
+}
+
+/// The same, if the next record is odd. Whether the last ones are read depends on where the window ends: so it ends at `loaded`, as
+/// that of an exact reader.
+#[inline(never)]
+fn count_on<G: Gatherer>(
     parts: BufferedParts<'_>,
     start: u64,
     loaded: u64,
@@ -390,16 +425,16 @@ pub(crate) fn count_records<G: Gatherer>(
     let mut window = loaded;
     let plans = frame.definitions.plans();
     loop {
-        let run = pass_placed(parts, first, frame, plans, limits, used, gatherer)?;
-        first = run.after;
-        if run.is_over {
-            return Ok(first);
-        }
         window = loaded_at(first, window);
         let buffered = buffered_from(parts, first, window);
         let run = gather_odd(buffered, frame, limits, used, gatherer, values)?;
         first = run.after;
         if run.is_over || !gatherer.counts() {
+            return Ok(first);
+        }
+        let run = pass_placed(parts, first, frame, plans, limits, used, gatherer)?;
+        first = run.after;
+        if run.is_over {
             return Ok(first);
         }
     }

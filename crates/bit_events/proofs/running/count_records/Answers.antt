@@ -1,88 +1,41 @@
-use Rattle.std.proofs.Common.{◌≡◌, ◌+◌, ◌-◌, ◌≤◌, subst, arith}
-use Rattle.std.proofs.lemmas.Result.{err_from_is_err_and}
-use Rattle.bit_fields.specs.Buffered.{BufferedBits, beyond}
+use Rattle.std.proofs.Common.{◌-◌}
+use Rattle.std.proofs.lemmas.Result.{IfOk-weaker, on_err_weaker}
+use Rattle.bit_fields.specs.Buffered.{beyond}
 use Rattle.bit_fields.specs.BufferedParts.{bits_of_parts}
-use Rattle.bit_events.specs.Runs.{GathersRun, StopsRun}
+use Rattle.bit_events.specs.Runs.{GathersRun}
 use Rattle.bit_events.proofs.Counting.{run_then}
-use Rattle.bit_events.proofs.Runs.{gathers_none, stop_later}
+use Rattle.bit_events.proofs.Runs.{gathers_none, gathers_then, stop_later}
 use Rattle.bit_events.proofs.running.count_records.Goals as goal
 
-pub loop-run-init : goal.loop-run-init
-loop-run-init g c = record {
-  least = c.requires.least;
-  there = c.requires.there;
-  gathers = gathers_none g.G.Gatherer.gathered c.args.limits.now c.args.frame.now c.args.used.now (beyond (bits_of_parts c.args.parts) (c.args.start - c.args.parts.position)) c.args.gatherer.now;
-  took = c.requires.took;
-}
-
-pub returns-in_err-run-clause-stops : goal.returns-in_err-run-clause-stops
-returns-in_err-run-clause-stops g c =
+pub count_on-requires-clause-there : goal.count_on-requires-clause-there
+count_on-requires-clause-there g c =
     let a = c.args in
     let bits = bits_of_parts a.parts in
-    let l = c.loop-run in
-    let p = err_from_is_err_and c.from_residual.result c.from_residual.ensures.1 in
-    rw p.1 (stop_later g.G.Gatherer.gathered g.G.Gatherer.fails a.limits.now a.frame.now a.used.now (beyond bits (a.start - a.parts.position)) a.gatherer.now l.used (beyond bits (l.first - a.parts.position)) l.gatherer c.pass_placed.new.gatherer l.invariant.gathers c.in_err-run.ensures.stops)
-
-pub returns-then-run-clause-gathers : goal.returns-then-run-clause-gathers
-returns-then-run-clause-gathers g c =
-    let a = c.args in
-    let bits = bits_of_parts a.parts in
-    let l = c.loop-run in
+    let from = beyond bits (a.start - a.parts.position) in
     let t = c.pass_placed.new in
-    let after = c.in_ok-run.run'.after in
-    let one = run_then g.G.Gatherer.gathered a.limits.now a.frame.now a.used.now bits (beyond bits (a.start - a.parts.position)) a.gatherer.now l.used l.first l.gatherer t.used after t.gatherer l.invariant.least l.invariant.there l.invariant.gathers c.in_ok-run.ensures.gathers in
-    let place : a.parts.position + (after - a.parts.position) ≡ after = omega (arith, one.0, l.invariant.least) in
-    (beyond bits (after - a.parts.position), place, one.2)
+    (run_then g.G.Gatherer.gathered a.limits.now a.frame.now a.used.now bits from a.gatherer.now a.used.now a.start a.gatherer.now t.used c.in_ok-run.run'.after t.gatherer c.requires.least c.requires.there (gathers_none g.G.Gatherer.gathered a.limits.now a.frame.now a.used.now from a.gatherer.now) c.in_ok-run.ensures.gathers).1
 
-pub buffered_from-buffered-requires-clause-there :
-    goal.buffered_from-buffered-requires-clause-there
-buffered_from-buffered-requires-clause-there g c =
+pub returns-clause-gathers : goal.returns-clause-gathers
+returns-clause-gathers g c =
     let a = c.args in
     let bits = bits_of_parts a.parts in
-    let l = c.loop-run in
+    let from = beyond bits (a.start - a.parts.position) in
     let t = c.pass_placed.new in
-    let after = c.in_ok-run.run'.after in
-    (run_then g.G.Gatherer.gathered a.limits.now a.frame.now a.used.now bits (beyond bits (a.start - a.parts.position)) a.gatherer.now l.used l.first l.gatherer t.used after t.gatherer l.invariant.least l.invariant.there l.invariant.gathers c.in_ok-run.ensures.gathers).1
+    let u = c.count_on.new in
+    let first = c.in_ok-run.run'.after in
+    let one = run_then g.G.Gatherer.gathered a.limits.now a.frame.now a.used.now bits from a.gatherer.now a.used.now a.start a.gatherer.now t.used first t.gatherer c.requires.least c.requires.there (gathers_none g.G.Gatherer.gathered a.limits.now a.frame.now a.used.now from a.gatherer.now) c.in_ok-run.ensures.gathers in
+    IfOk-weaker c.count_on.result (λ after. GathersRun g.G.Gatherer.gathered a.limits.now a.frame.now t.used (beyond bits (first - a.parts.position)) t.gatherer u.used after u.gatherer) (λ after. GathersRun g.G.Gatherer.gathered a.limits.now a.frame.now a.used.now from a.gatherer.now u.used after u.gatherer)
+    (λ after run. (run.0, run.1, gathers_then g.G.Gatherer.gathered a.limits.now a.frame.now a.used.now from a.gatherer.now t.used (beyond bits (first - a.parts.position)) t.gatherer u.used run.0 u.gatherer one.2 run.2))
+    c.count_on.ensures.gathers
 
-pub returns-in_err-run-2-clause-stops : goal.returns-in_err-run-2-clause-stops
-returns-in_err-run-2-clause-stops g c =
+pub returns-clause-stops : goal.returns-clause-stops
+returns-clause-stops g c =
     let a = c.args in
     let bits = bits_of_parts a.parts in
-    let l = c.loop-run in
+    let from = beyond bits (a.start - a.parts.position) in
     let t = c.pass_placed.new in
-    let after = c.in_ok-run.run'.after in
-    let one = run_then g.G.Gatherer.gathered a.limits.now a.frame.now a.used.now bits (beyond bits (a.start - a.parts.position)) a.gatherer.now l.used l.first l.gatherer t.used after t.gatherer l.invariant.least l.invariant.there l.invariant.gathers c.in_ok-run.ensures.gathers in
-    let stops = subst (λ (b : BufferedBits). StopsRun g.G.Gatherer.gathered g.G.Gatherer.fails a.limits.now a.frame.now t.used b t.gatherer c.gather_odd.new.gatherer) c.buffered_from-buffered.ensures c.in_err-run-2.ensures.stops in
-    let p = err_from_is_err_and c.from_residual-in_err-run-2.result c.from_residual-in_err-run-2.ensures.1 in
-    rw p.1 (stop_later g.G.Gatherer.gathered g.G.Gatherer.fails a.limits.now a.frame.now a.used.now (beyond bits (a.start - a.parts.position)) a.gatherer.now t.used (beyond bits (after - a.parts.position)) t.gatherer c.gather_odd.new.gatherer one.2 stops)
-
-pub returns-then-run-2-clause-gathers : goal.returns-then-run-2-clause-gathers
-returns-then-run-2-clause-gathers g c =
-    let a = c.args in
-    let bits = bits_of_parts a.parts in
-    let l = c.loop-run in
-    let t = c.pass_placed.new in
-    let u = c.gather_odd.new in
-    let after = c.in_ok-run.run'.after in
-    let last = c.in_ok-run-2.run'.after in
-    let one = run_then g.G.Gatherer.gathered a.limits.now a.frame.now a.used.now bits (beyond bits (a.start - a.parts.position)) a.gatherer.now l.used l.first l.gatherer t.used after t.gatherer l.invariant.least l.invariant.there l.invariant.gathers c.in_ok-run.ensures.gathers in
-    let least : a.parts.position ≤ after = omega (arith, one.0, l.invariant.least) in
-    let odd = subst (λ (b : BufferedBits). GathersRun g.G.Gatherer.gathered a.limits.now a.frame.now t.used b t.gatherer u.used last u.gatherer) c.buffered_from-buffered.ensures c.in_ok-run-2.ensures.gathers in
-    let two = run_then g.G.Gatherer.gathered a.limits.now a.frame.now a.used.now bits (beyond bits (a.start - a.parts.position)) a.gatherer.now t.used after t.gatherer u.used last u.gatherer least one.1 one.2 odd in
-    let place : a.parts.position + (last - a.parts.position) ≡ last = omega (arith, two.0, least) in
-    (beyond bits (last - a.parts.position), place, two.2)
-
-pub loop-run-preserved : goal.loop-run-preserved
-loop-run-preserved g c =
-    let a = c.args in
-    let bits = bits_of_parts a.parts in
-    let l = c.loop-run in
-    let t = c.pass_placed.new in
-    let u = c.gather_odd.new in
-    let after = c.in_ok-run.run'.after in
-    let last = c.in_ok-run-2.run'.after in
-    let one = run_then g.G.Gatherer.gathered a.limits.now a.frame.now a.used.now bits (beyond bits (a.start - a.parts.position)) a.gatherer.now l.used l.first l.gatherer t.used after t.gatherer l.invariant.least l.invariant.there l.invariant.gathers c.in_ok-run.ensures.gathers in
-    let least : a.parts.position ≤ after = omega (arith, one.0, l.invariant.least) in
-    let odd = subst (λ (b : BufferedBits). GathersRun g.G.Gatherer.gathered a.limits.now a.frame.now t.used b t.gatherer u.used last u.gatherer) c.buffered_from-buffered.ensures c.in_ok-run-2.ensures.gathers in
-    let two = run_then g.G.Gatherer.gathered a.limits.now a.frame.now a.used.now bits (beyond bits (a.start - a.parts.position)) a.gatherer.now t.used after t.gatherer u.used last u.gatherer least one.1 one.2 odd in
-    record { least = omega (arith, two.0, least); there = two.1; gathers = two.2; took = c.in_ok-run-2.ensures.took }
+    let first = c.in_ok-run.run'.after in
+    let one = run_then g.G.Gatherer.gathered a.limits.now a.frame.now a.used.now bits from a.gatherer.now a.used.now a.start a.gatherer.now t.used first t.gatherer c.requires.least c.requires.there (gathers_none g.G.Gatherer.gathered a.limits.now a.frame.now a.used.now from a.gatherer.now) c.in_ok-run.ensures.gathers in
+    on_err_weaker c.count_on.result
+    (λ stops. stop_later g.G.Gatherer.gathered g.G.Gatherer.fails a.limits.now a.frame.now a.used.now from a.gatherer.now t.used (beyond bits (first - a.parts.position)) t.gatherer c.count_on.new.gatherer one.2 stops)
+    c.count_on.ensures.stops

@@ -3,7 +3,7 @@ use Rattle.bit_fields.specs.Buffered.{beyond}
 use Rattle.bit_fields.specs.BufferedParts.{bits_of_parts}
 use Rattle.bit_events.specs.MachineView.{TookSome}
 use Rattle.bit_events.specs.Runs.{GathersTo}
-use Rattle.bit_events.proofs.running.count_records.Given as goal
+use Rattle.bit_events.proofs.running.count_on.Given as goal
 
 abbrev pub invariant-loop-run : goal.invariant-loop-run
 invariant-loop-run g l = record {
