@@ -2,7 +2,7 @@
 //! which lists a tree, and `write_events`, which lists events as they are read.
 //!
 //! `analyse` is a fold into a counter: rows in order of first entry, found by a tree of links (`links`). An open block caches the
-//! place of its row, and one table for all rows caches the places of recent codes. The key at such a place is checked. Counts
+//! place of its row, and small tables for all rows cache the places of recent codes. The key at such a place is checked. Counts
 //! saturate, and `numbers_fit` proves that no accepted input reaches the greatest number.
 //!
 //! `write_show` keeps the bytes that `check_keeping` accepts, reads them again, and prints items as they are read, without a tree.

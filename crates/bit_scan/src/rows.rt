@@ -38,20 +38,12 @@ impl Keyed for (u64, CodeRow) {
     }
 }
 
-/// The number of cached row places.
-const REMEMBERED: usize = 2048;
+/// Caches, by the low bits of a code, the place of the code's row that was found last there. A place of another code's row costs a
+/// look-up, and changes no result.
+type CodePlaces = [u8; 64];
 
-/// Caches, by the low bits of a row's place and of a code, the place of the row of codes that was found last there. A place of
-/// another code's row costs a look-up, and changes no result.
-type Places = [u8; REMEMBERED];
-
-/// The cache slot of a code.
-#[inline(always)]
-fn slot_of(row: usize, code: u64) -> usize
-    ensures { result < 2048 }
-{
-    row % 32 * 64 + (code % 64) as usize
-}
+/// Such caches, by the low bits of the place of the row of a block's id.
+type Places = [CodePlaces; 32];
 
 /// Reserves room for one more row. There are many lists of rows, so doubling would leave much memory unused.
 #[inline(always)]
@@ -242,14 +234,9 @@ impl BlockRow {
         }
     }
 
-    /// Counts what an event adds to the row at a place. Each sum saturates at the greatest number.
+    /// Counts what an event adds to the row. Each sum saturates at the greatest number.
     #[inline(always)]
-    fn add(
-        &mut self,
-        places: &mut Places,
-        place: usize,
-        addition: Addition,
-    ) -> Result<(), AllocError>
+    fn add(&mut self, places: &mut CodePlaces, addition: Addition) -> Result<(), AllocError>
         ensures { (id : ℕ) (tally : BlockTally) → block_tally (id, self.old) ≡ cut_row tally
             → OnOk result (block_tally (id, self.new) ≡ cut_row (with_added addition tally)) }
     {
@@ -270,7 +257,7 @@ impl BlockRow {
                 bits,
             } => {
                 self.codes
-                    .add(&mut places[slot_of(place, code)], code, bits)?;
+                    .add(&mut places[(code % 64) as usize], code, bits)?;
                 self.records = self.records.saturating_add(1);
                 self.abbreviated = self.abbreviated.saturating_add(u64::from(abbreviated));
                 self.values = self.values.saturating_add(values);
@@ -280,12 +267,11 @@ impl BlockRow {
     }
 }
 
-/// Counts the records of a block in its row, which is at a place.
+/// Counts the records of a block in its row.
 #[derive(Drop)]
 struct RowCounter<'a> {
     row: &'a mut BlockRow,
-    places: &'a mut Places,
-    place: usize,
+    places: &'a mut CodePlaces,
 }
 
 impl<'a> RunCounter for RowCounter<'a> {
@@ -301,18 +287,17 @@ impl<'a> RunCounter for RowCounter<'a> {
             values: passed.count,
             bits: passed.after - passed.first,
         };
-        self.row.add(self.places, self.place, addition)?;
+        self.row.add(self.places, addition)?;
         Ok(true)
     }
 }
 
 impl BlockRow {
-    /// Passes over records of a block and counts them in the row, which is at a place.
+    /// Passes over records of a block and counts them in the row.
     #[inline(always)]
     fn pass(
         &mut self,
-        places: &mut Places,
-        place: usize,
+        places: &mut CodePlaces,
         bits: PlacedBits<'_>,
         width: u32,
         plans: &[Plan],
@@ -325,11 +310,7 @@ impl BlockRow {
             × CountsInRow self.old records self.new
             × PassesRecords width definitions room (placed bits.entry) records run) }
     {
-        let mut counter = RowCounter {
-            row: self,
-            places,
-            place,
-        };
+        let mut counter = RowCounter { row: self, places };
         pass_records(bits, width, plans, room, &mut counter)
     }
 }
@@ -360,7 +341,7 @@ fn add_at(
         ≡ cut_rows (with_row (with_added addition) id tallies)) }
 {
     let (_, row) = &mut rows[place];
-    row.add(places, place, addition)
+    row.add(&mut places[place % 32], addition)
 }
 
 /// Passes over records of a block and counts them in its row, which is at a place.
@@ -387,7 +368,7 @@ fn pass_at(
         → block_tallies rows.new ≡ cut_rows (rows_after records id tallies))) }
 {
     let (_, row) = &mut rows[place];
-    row.pass(places, place, bits, width, plans, room)
+    row.pass(&mut places[place % 32], bits, width, plans, room)
 }
 
 /// Begins the row of an id that has none, at the end, with what an event adds, and returns its place.
@@ -449,7 +430,7 @@ impl BlockRows {
             alloc,
             rows: Vec::new(alloc),
             links: Vec::new(alloc),
-            places: [0; REMEMBERED],
+            places: [[0; 64]; 32],
         }
     }
 
@@ -465,7 +446,7 @@ impl BlockRows {
             }
             Spot::Link(slot) => {
                 let mut row = BlockRow::new(self.alloc);
-                row.add(&mut self.places, self.rows.len(), addition)?;
+                row.add(&mut self.places[self.rows.len() % 32], addition)?;
                 begin_row(&mut self.rows, &mut self.links, slot, id, row)
             }
         }
