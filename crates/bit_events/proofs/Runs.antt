@@ -127,7 +127,7 @@ gathers_none gathered limits f used a g = record {
 }
 
 -- a step that was seen, after bits that were skipped
-passed_more : {A : Type 0} (rule : Grammar A) (a b : BufferedBits) (value : A) (c : BufferedBits) → Passed a b → Reads rule b value c → Passed a c
+pub passed_more : {A : Type 0} (rule : Grammar A) (a b : BufferedBits) (value : A) (c : BufferedBits) → Passed a b → Reads rule b value c → Passed a c
 passed_more rule a b value c p seen = (let q = reads_passed rule b value c seen in passed_both a b c p (q.0, q.1, q.2))
 
 -- a step of the innermost block, by a reader before these bits
@@ -187,10 +187,10 @@ gathers_more {G = G} gathered limits f used a g now_used b h id code list c k mo
 
 -- one more, straight from the bits after its id
 pub plain_more : {G : Type 0} (gathered : G → List Event → G → Type 0) (limits : Limits) (f : Frame) (used : ℕ) (a : BufferedBits) (g : G) (now_used : ℕ) (b : BufferedBits) (h : G) (room : ℕ) (c : BufferedBits) (taken : PlainRecord) (k : G) → (frame_shown f).info ≡ None → GathersTo gathered limits f used a g now_used b h → room ≡ limits.values - now_used → Reads (fixed f.head.width) b 3 c → GathersPlain gathered room c h (Some taken) k
-    → GathersTo gathered limits f used a g (now_used + taken.count) taken.after k
+    → GathersTo gathered limits f used a g (now_used + taken.count) (beyond c taken.len) k
 plain_more gathered limits f used a g now_used b h room c taken k none so left seen one =
-    gathers_more gathered limits f used a g now_used b h 3 one.0 one.1 taken.after k (now_used + taken.count) so (ap (λ (n : ℕ). now_used + n) (sym one.2))
-    (λ outer handed same. plain_seen limits (frame_shown f) outer handed 3 room one.0 one.1 b c taken.after none refl (ap (λ (u : ℕ). limits.values - u) same ∙ sym left) seen one.4) (one.5 b.position)
+    gathers_more gathered limits f used a g now_used b h 3 one.0 one.1 (beyond c taken.len) k (now_used + taken.count) so (ap (λ (n : ℕ). now_used + n) (sym one.2))
+    (λ outer handed same. plain_seen limits (frame_shown f) outer handed 3 room one.0 one.1 b c (beyond c taken.len) none refl (ap (λ (u : ℕ). limits.values - u) same ∙ sym left) seen one.5) (one.6 b.position)
 
 -- by a gatherer that changed without gathering anything
 pub gathers_still : {G : Type 0} (gathered : G → List Event → G → Type 0) (limits : Limits) (f : Frame) (used : ℕ) (a : BufferedBits) (g : G) (now_used : ℕ) (b : BufferedBits) (h k : G) → GathersTo gathered limits f used a g now_used b h → StaysGathered gathered h k → GathersTo gathered limits f used a g now_used b k

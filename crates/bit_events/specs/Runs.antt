@@ -7,7 +7,7 @@ use Rattle.bit_grammar.specs.Record.{unabbreviated}
 use Rattle.bit_grammar.specs.Blocks.{Limits, Handed, entry}
 use Rattle.bit_grammar.specs.Machine as machine
 use Rattle.bit_grammar.specs.Machine.{Event, step_of}
-use Rattle.bit_fields.specs.Buffered.{BufferedBits, Reads, Sees, reader_further, reader_at}
+use Rattle.bit_fields.specs.Buffered.{BufferedBits, Reads, Sees, beyond, reader_further, reader_at}
 use Rattle.bit_fields.specs.Reader.{Reader, TellsBytes, Took}
 use Rattle.bit_events.specs.declared.frame.Frame.{Frame}
 use Rattle.bit_events.specs.declared.gatherer.PlainRecord.{PlainRecord}
@@ -58,9 +58,9 @@ abbrev pub GathersPlain : {G : Type 0} → (G → List Event → G → Type 0) �
     → BufferedBits → G → Option PlainRecord → G → Type 0
 GathersPlain gathered room a g None h = StaysGathered gathered g h
 GathersPlain gathered room a g (Some taken) h = (code : ℕ) × (list : List ℕ)
-    × (length list ≡ taken.count) × (taken.count ≤ room)
-    × Reads (unabbreviated room) a (record { code = code; values = list }) taken.after
-    × ((first : ℕ) → Gathers gathered g (record_of 3 list first (code, taken.after.position)) h)
+    × (length list ≡ taken.count) × (taken.count ≤ room) × (taken.len + 64 ≤ length a.bits)
+    × Reads (unabbreviated room) a (record { code = code; values = list }) (beyond a taken.len)
+    × ((first : ℕ) → Gathers gathered g (record_of 3 list first (code, a.position + taken.len)) h)
 
 -- the later buffered bits are a suffix of the earlier ones
 abbrev pub Passed : BufferedBits → BufferedBits → Type 0

@@ -8,14 +8,15 @@ ghost use Rattle.bit_events.specs.Runs.{GathersPlain};
 
 use crate::passing::PassedRun;
 use bit_abbrev::{Abbrev, Plan};
-use bit_fields::{Buffered, PlacedBits, ValueTaker};
+use bit_fields::{PlacedBits, ValueTaker};
 use std::alloc::AllocError;
 
-/// A record that is not abbreviated, and was taken from buffered bits: how many values it has, and the bits after it.
-#[derive(Drop)]
-pub struct PlainRecord<'a> {
+/// A record that is not abbreviated, and was taken from buffered bits: how many values it has, and its length in bits, without its
+/// abbreviation id.
+#[derive(Clone, Copy)]
+pub struct PlainRecord {
     pub count: u64,
-    pub after: Buffered<'a>,
+    pub len: u64,
 }
 
 /// Gathers the events of a stream, one after another.
@@ -81,22 +82,21 @@ pub trait Gatherer {
         ensures took { TookSome Self.Values.took values.old
             → TookSome Self.Values.took values.new };
 
-    /// Whether `plain` may take the next record, which is not abbreviated and comes next in the buffered bits, after its abbreviation
-    /// id. If not, `plain` is not called.
+    /// Whether `plain` may take the next record, which is not abbreviated. If not, `plain` is not called.
     #[inline(always)]
-    fn takes_plain(&self, _buffered: &Buffered<'_>) -> bool {
+    fn takes_plain(&self) -> bool {
         false
     }
 
     /// Takes the next record, which is not abbreviated, straight from the buffered bits after its abbreviation id, if it has at most
-    /// `room` values. `None` takes nothing: the record is then read into a value sink.
+    /// `room` values, and 64 more bits are there. `None` takes nothing: the record is then read into a value sink.
     #[inline(always)]
-    fn plain<'a>(
+    fn plain(
         &mut self,
-        _buffered: &Buffered<'a>,
+        _bits: PlacedBits<'_>,
         _room: u64,
-    ) -> Result<Option<PlainRecord<'a>>, AllocError>
-        ensures gathers { IfOk result (λ taken. GathersPlain gathered _room _buffered.now
+    ) -> Result<Option<PlainRecord>, AllocError>
+        ensures gathers { IfOk result (λ taken. GathersPlain gathered _room (placed _bits.entry)
             self.old taken self.new) }
         ensures fails { OnErr result (fails self.old None self.new) }
     {

@@ -8,6 +8,7 @@ ghost use Rattle.bit_grammar.specs.Machine as machine;
 ghost use Rattle.bit_grammar.specs.Machine.{step_of};
 ghost use Rattle.bit_fields.specs.Buffered.{Reads, beyond};
 ghost use Rattle.bit_fields.specs.BufferedParts.{bits_of_parts, AreParts};
+ghost use Rattle.bit_fields.specs.PlacedView.{placed};
 ghost use Rattle.bit_abbrev.specs.Plans.{ArePlans};
 ghost use Rattle.bit_abbrev.specs.Values.{Gains, Has, Keeps};
 ghost use Rattle.bit_events.specs.FrameView.{frame_shown};
@@ -99,7 +100,7 @@ pub(crate) fn buffered_item<U, D: Lookup, V: ValueTaker>(
 /// own: what it needs would not fit into the loop over all records.
 #[inline(never)]
 fn gather_plain<G: Gatherer>(
-    buffered: Buffered<'_>,
+    bits: PlacedBits<'_>,
     first: u64,
     frame: &Frame,
     limits: &Limits,
@@ -108,35 +109,38 @@ fn gather_plain<G: Gatherer>(
 ) -> Result<Option<u64>, AllocError>
     requires plain { frame.now.info ≡ None }
     ensures gathers { IfOk result (λ after. GathersFrom G.gathered limits.now frame.now used.old 3
-        first buffered.entry gatherer.old used.new after gatherer.new) }
+        first (placed bits.entry) gatherer.old used.new after gatherer.new) }
     ensures stops { OnErr result (StopsFrom G.gathered G.fails limits.now frame.now used.old 3 first
-        buffered.entry gatherer.old gatherer.new) }
+        (placed bits.entry) gatherer.old gatherer.new) }
 {
-    let mut buffered = buffered;
+    let mut bits = bits;
     let mut first = first;
     let mut some = false;
     let mut spent = *used;
     let mut room = limits.values().saturating_sub(spent);
+    let width = u32::from(frame.head.width);
     loop {
-        let Some(taken) = gatherer.plain(&buffered, room)? else {
+        let Some(taken) = gatherer.plain(bits, room)? else {
             *used = spent;
             return Ok(if some { Some(first) } else { None });
         };
         some = true;
-        buffered = taken.after;
         spent += taken.count;
         room = room.saturating_sub(taken.count);
-        first = buffered.position();
-        let Some(3) = record_id(&mut buffered, frame) else {
+        let after = bits.after(taken.len);
+        first = after.position();
+        if after.fixed(width) != 3 {
             *used = spent;
             return Ok(Some(first));
-        };
+        }
+        bits = after.after(u64::from(width));
     }
 }
 
-/// The same, if the next record is not abbreviated and the gatherer takes such records.
+/// The same, if the next record is not abbreviated and the gatherer takes such records. The buffer has bits that these parts have too.
 #[inline(always)]
 fn gather_as_bits<G: Gatherer>(
+    parts: BufferedParts<'_>,
     buffered: &Buffered<'_>,
     id: u32,
     first: u64,
@@ -145,78 +149,25 @@ fn gather_as_bits<G: Gatherer>(
     used: &mut u64,
     gatherer: &mut G,
 ) -> Result<Option<u64>, AllocError>
+    requires lawful { AreParts parts }
+    requires least { (bits_of_parts parts).position ≤ buffered.now.position }
+    requires there { buffered.now.position - (bits_of_parts parts).position
+        ≤ length (bits_of_parts parts).bits }
+    requires here { buffered.now ≡ beyond (bits_of_parts parts)
+        (buffered.now.position - (bits_of_parts parts).position) }
     requires plain { frame.now.info ≡ None }
     ensures gathers { IfOk result (λ after. GathersFrom G.gathered limits.now frame.now used.old id
         first buffered.now gatherer.old used.new after gatherer.new) }
     ensures stops { OnErr result (StopsFrom G.gathered G.fails limits.now frame.now used.old id first
         buffered.now gatherer.old gatherer.new) }
 {
-    if id != 3 || !gatherer.takes_plain(buffered) {
+    if id != 3 || !gatherer.takes_plain() {
         return Ok(None);
     }
-    gather_plain(buffered.copy(), first, frame, limits, used, gatherer)
-}
-
-/// Gathers records of a block that is no BLOCKINFO block, as long as they are completely buffered, and returns the bit after the
-/// last one. Readers of all sources share it.
-#[inline(never)]
-pub(crate) fn gather_records<G: Gatherer>(
-    buffered: Buffered<'_>,
-    frame: &Frame,
-    limits: &Limits,
-    used: &mut u64,
-    gatherer: &mut G,
-    values: &mut G::Values,
-) -> Result<u64, AllocError>
-    requires took { TookSome G.Values.took values.old }
-    requires plain { frame.now.info ≡ None }
-    ensures took { TookSome G.Values.took values.new }
-    ensures gathers { IfOk result (λ after. GathersRun G.gathered limits.now frame.now used.old
-        buffered.entry gatherer.old used.new after gatherer.new) }
-    ensures stops { OnErr result (StopsRun G.gathered G.fails limits.now frame.now used.old
-        buffered.entry gatherer.old gatherer.new) }
-{
-    let mut buffered = buffered;
-    let mut first = buffered.position();
-    let mut spent = *used;
-    let mut room = limits.values().saturating_sub(spent);
-    let definitions = frame.definitions.all();
-    loop {
-        values.truncate(0);
-        let Some(id) = record_id(&mut buffered, frame) else {
-            *used = spent;
-            return Ok(first);
-        };
-        if let Some(after) = gather_as_bits(
-            &buffered, id, first, frame, limits, &mut spent, gatherer,
-        )? {
-            buffered.skip(after - buffered.position());
-            room = limits.values().saturating_sub(spent);
-            first = after;
-            continue;
-        }
-        let Ok(code) = read_entry::<G, Buffered<'_>, Definitions<'_>, G::Values>(
-            &mut buffered,
-            &definitions,
-            room,
-            id,
-            first,
-            values,
-        ) else {
-            *used = spent;
-            return Ok(first);
-        };
-        let after = buffered.position();
-        let count = values.count();
-        spent += count;
-        room = room.saturating_sub(count);
-        gatherer.record(id, code, values, first, after)?;
-        first = after;
-        if gatherer.counts() {
-            *used = spent;
-            return Ok(first);
-        }
-    }
+    let Some(bits) = PlacedBits::new(parts, buffered.position()) else {
+        return Ok(None);
+    };
+    gather_plain(bits, first, frame, limits, used, gatherer)
 }
 
 /// Records that were gathered: the bit after the last one, and whether no record comes there that is buffered.
@@ -359,6 +310,75 @@ pub(crate) fn buffered_from<'a>(parts: BufferedParts<'a>, first: u64, loaded: u6
     buffered
 }
 
+/// Gathers records of a block that is no BLOCKINFO block, as long as they are completely buffered, and returns the bit after the
+/// last one. Readers of all sources share it. The buffer has bits that these parts have too.
+#[inline(never)]
+pub(crate) fn gather_records<G: Gatherer>(
+    parts: BufferedParts<'_>,
+    buffered: Buffered<'_>,
+    frame: &Frame,
+    limits: &Limits,
+    used: &mut u64,
+    gatherer: &mut G,
+    values: &mut G::Values,
+) -> Result<u64, AllocError>
+    requires lawful { AreParts parts }
+    requires least { (bits_of_parts parts).position ≤ buffered.position }
+    requires there { buffered.position - (bits_of_parts parts).position
+        ≤ length (bits_of_parts parts).bits }
+    requires here { buffered ≡ beyond (bits_of_parts parts)
+        (buffered.position - (bits_of_parts parts).position) }
+    requires took { TookSome G.Values.took values.old }
+    requires plain { frame.now.info ≡ None }
+    ensures took { TookSome G.Values.took values.new }
+    ensures gathers { IfOk result (λ after. GathersRun G.gathered limits.now frame.now used.old
+        buffered.entry gatherer.old used.new after gatherer.new) }
+    ensures stops { OnErr result (StopsRun G.gathered G.fails limits.now frame.now used.old
+        buffered.entry gatherer.old gatherer.new) }
+{
+    let mut buffered = buffered;
+    let mut first = buffered.position();
+    let mut spent = *used;
+    let mut room = limits.values().saturating_sub(spent);
+    let definitions = frame.definitions.all();
+    loop {
+        values.truncate(0);
+        let Some(id) = record_id(&mut buffered, frame) else {
+            *used = spent;
+            return Ok(first);
+        };
+        if let Some(after) = gather_as_bits(
+            parts, &buffered, id, first, frame, limits, &mut spent, gatherer,
+        )? {
+            buffered.skip(after - buffered.position());
+            room = limits.values().saturating_sub(spent);
+            first = after;
+            continue;
+        }
+        let Ok(code) = read_entry::<G, Buffered<'_>, Definitions<'_>, G::Values>(
+            &mut buffered,
+            &definitions,
+            room,
+            id,
+            first,
+            values,
+        ) else {
+            *used = spent;
+            return Ok(first);
+        };
+        let after = buffered.position();
+        let count = values.count();
+        spent += count;
+        room = room.saturating_sub(count);
+        gatherer.record(id, code, values, first, after)?;
+        first = after;
+        if gatherer.counts() {
+            *used = spent;
+            return Ok(first);
+        }
+    }
+}
+
 /// Gathers records of a block that is no BLOCKINFO block from a bit on, as long as they are completely buffered, and returns the bit
 /// after the last one. The gatherer needs only the number of their values.
 #[inline(always)]
@@ -469,7 +489,7 @@ fn gather_turn<G: Gatherer>(
         return count_records(parts, start, loaded, frame, limits, used, gatherer, values);
     }
     let buffered = buffered_from(parts, start, loaded);
-    gather_records(buffered, frame, limits, used, gatherer, values)
+    gather_records(parts, buffered, frame, limits, used, gatherer, values)
 }
 
 /// Gathers all such records. Where the gatherer begins or ends to need their values, it goes on: an exact reader takes these bits when

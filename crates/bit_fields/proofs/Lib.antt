@@ -33,3 +33,5 @@ pub mod EndMarks
 pub mod Placing
 pub mod LongSixes
 pub mod PlainRecords
+pub mod PlainPlaces
+pub mod LastChunks

@@ -18,7 +18,7 @@ use Rattle.bit_fields.specs.Inside.{part_of}
 use Rattle.bit_fields.specs.Short.{payload_number}
 use Rattle.bit_fields.specs.Placed.{AreTops, HasNumbers, Shows, bits_at}
 use Rattle.bit_fields.specs.SixBits.{Begins}
-use Rattle.bit_fields.proofs.BitLaws.{length-bits_of_bytes, take-bits_of, drop-bits_of, window_value, drop_more, bytes_dropped, bits_of_bytes-take, left_after}
+use Rattle.bit_fields.proofs.BitLaws.{length-bits_of_bytes, take-bits_of, drop-bits_of, number-bits_mod, kept_is, drop_more, bytes_dropped, bits_of_bytes-take, left_after}
 use Rattle.bit_fields.proofs.BufferedReads.{reads_there}
 use Rattle.bit_fields.proofs.EndMarks.{Marks, EndsHere, bit_behind, same_bits, ends_chunks, chunks_read, clears, clears_most, cleared_by, all_cleared, split_low, marked_reads}
 use Rattle.bit_fields.proofs.LentParts.{parts_is, fixed_reads}
@@ -252,9 +252,13 @@ ends_front at word bytes there fits is n few =
     let some : at % 8 + n ≤ 64 = omega (arith, few) in
     ap (λ (k : ℕ). bits_of n (bit_not w64 (bit_not w64 word / 2 ^ k))) (low_three at) ∙ front_after (at % 8) n (bit_not w64 word) s (not_small word) some (word_front word s fits e.seen (at % 8 + n) some) ∙ ap (take n) e.rest
 
-pub fixed_shown : (n ends value : ℕ) (a : BufferedBits) → n ≤ 32 → n ≤ length a.bits → bits_of n (bit_not w64 ends) ≡ take n a.bits → value ≡ bit_and (bit_not w64 ends) (1 * 2 ^ n % 2 ^ 64 - 1) → Reads (fixed n) a value (beyond a n)
-fixed_shown n ends value a few there is value_is =
-    let told : value ≡ number (take n a.bits) = value_is ∙ window_value n (bit_not w64 ends) n (take n a.bits) few (omega arith) is ∙ ap number (front_again n n a.bits (omega arith)) in
+-- only the first n bits of a word
+pub front_shown : (n word : ℕ) (s : List Bool) → n ≤ 57 → bits_of n word ≡ take n s → bits_of n (bit_and word (1 * 2 ^ n % 2 ^ 64 - 1)) ≡ take n s
+front_shown n word s few is = kept_is n word n (take n s) (omega arith) (omega (arith, few)) is ∙ front_again n n s (omega arith)
+
+pub fixed_shown : (n value : ℕ) (a : BufferedBits) → n ≤ length a.bits → bits_of n value ≡ take n a.bits → value < 2 ^ n → Reads (fixed n) a value (beyond a n)
+fixed_shown n value a there is below =
+    let told : value ≡ number (take n a.bits) = sym (mod-eq_of_lt below) ∙ sym (number-bits_mod n value) ∙ ap number is in
     let whole : reading (part_of a.position n) a.position (a.bits ++ []) ≡ Ok (number (take n a.bits), a.position + n, drop n a.bits ++ []) = part_at n a.position a.position a.bits [] there in
     fixed_reads n value a (beyond a n) (ap (reading (part_of a.position n) a.position) (sym (append-nil a.bits)) ∙ whole ∙ ap (λ (s : List Bool). Ok (number (take n a.bits), a.position + n, s)) (append-nil (drop n a.bits)) ∙ ap (λ (v : ℕ). Ok (v, a.position + n, drop n a.bits)) (sym told))
 
@@ -266,7 +270,7 @@ has_none n a = let e : a.position ≡ a.position + 0 = omega arith in (omega ari
 pub has_one : (n value len : ℕ) (a : BufferedBits) → Reads (vbr n) a value (beyond a len) → HasNumbers n 1 a len
 has_one n value len a seen = (omega (arith, reads_there (vbr n) a value (beyond a len) seen), (value ∷ [], refl, rw seen refl))
 
-beyond_both : (a : BufferedBits) (m n : ℕ) → beyond (beyond a m) n ≡ beyond a (m + n)
+pub beyond_both : (a : BufferedBits) (m n : ℕ) → beyond (beyond a m) n ≡ beyond a (m + n)
 beyond_both a m n = parts_is (a.position + m + n) (a.position + (m + n)) (drop n (drop m a.bits)) (drop (m + n) a.bits) (omega arith) (drop_more m n a.bits)
 
 pub has_both : (n i j k x y z : ℕ) (a : BufferedBits) → k ≡ i + j → z ≡ x + y → HasNumbers n i a x → HasNumbers n j (beyond a x) y → HasNumbers n k a z
@@ -290,7 +294,7 @@ has_sixes count len ends a some few shows set begins =
 
 -- ---- a loop over numbers
 
-further_on : (start from at : ℕ) (bytes : List ℕ) → from ≤ at → bits_at start at bytes ≡ beyond (bits_at start from bytes) (at - from)
+pub further_on : (start from at : ℕ) (bytes : List ℕ) → from ≤ at → bits_at start at bytes ≡ beyond (bits_at start from bytes) (at - from)
 further_on start from at bytes on =
     let s : List Bool = bits_of_bytes bytes in
     let sum : from + (at - from) ≡ at = omega (arith, on) in

@@ -1,20 +1,20 @@
 -- Records that are not abbreviated, as buffered bits show them.
 use Rattle.std.proofs.Common.{◌≡◌, ℕ, zero, suc, ◌+◌, ◌-◌, ◌≤◌, Bool, List, [], ◌∷◌, ◌++◌, length, take, drop, Result, Ok, Err, refl, sym, ap, ◌∙◌, subst, arith, append_assoc, length-append}
 use Rattle.std.proofs.lemmas.Bool.{le-leb}
-use Rattle.std.proofs.lemmas.List.{append-nil, take-append-drop, drop-append-le, drop_at, length-take-le}
+use Rattle.std.proofs.lemmas.List.{append-nil, take-append-drop, drop_at}
 use Rattle.std.proofs.Math.Seq.{take-add}
-use Rattle.bit_grammar.specs.Bits.{bits_of, number}
+use Rattle.bit_grammar.specs.Bits.{bits_of}
 use Rattle.bit_grammar.specs.FormatFields.{shortest}
 use Rattle.bit_grammar.specs.Grammar.{Grammar, Fault, repeat, reading}
 use Rattle.bit_grammar.specs.Fields.{vbr}
 use Rattle.bit_grammar.specs.Record.{value_count, unabbreviated}
 use Rattle.bit_grammar.specs.Normal.{values_bits, entry_text}
-use Rattle.bit_grammar.proofs.Bits.Numbers.{length-bits_of}
 use Rattle.bit_fields.specs.Buffered.{BufferedBits, Reads, beyond}
 use Rattle.bit_fields.specs.SixBits.{Begins, NeedsAll, Shortest, TakesShortest, TakesPlain}
-use Rattle.bit_fields.proofs.BitLaws.{bits_of-number, drop_more}
+use Rattle.bit_fields.proofs.BitLaws.{take-bits_of, drop_more}
 use Rattle.bit_fields.proofs.BufferedReads.{reads_beyond, reads_passed}
-use Rattle.bit_fields.proofs.SixBitForms.{begun_bits, needs_shortest}
+use Rattle.bit_fields.proofs.SixBits.{begun_front}
+use Rattle.bit_fields.proofs.SixBitForms.{front_bits, needs_shortest}
 
 -- ---- one after another
 
@@ -55,9 +55,6 @@ repeat_both {A} rule (suc m) n k p s xs ys q t u v all e f = subst (λ (i : ℕ)
     first (Err fault) is later = absurd (not_ok (xs, q, t) fault (sym (rw is refl) ∙ e))
     first (Ok x) is later = last x is later (reading (repeat m rule) x.1 x.2) refl
 
-pub none_taken : (many : ℕ) (a : BufferedBits) → many ≡ 0 → TakesShortest many a a
-none_taken many a is = subst (λ (n : ℕ). TakesShortest n a a) (sym is) (record { values = []; count = refl; reads = refl; spelled = refl })
-
 pub then_taken : (m n : ℕ) (a b c : BufferedBits) → TakesShortest m a b → TakesShortest n b c → TakesShortest (m + n) a c
 then_taken m n a b c x y = record {
   values = x.values ++ y.values;
@@ -67,23 +64,16 @@ then_taken m n a b c x y = record {
 }
 
 -- the numbers at the front of a word
-pub word_taken : (n bits word : ℕ) (b : BufferedBits) → 54 ≤ length b.bits → bits_of 54 word ≡ take 54 b.bits → Begins word n bits → Shortest word bits → bits ≤ 54 → TakesShortest n b (beyond b bits)
-unfolding Begins
-word_taken n bits word b there front begins shortest most =
-    let rest : List Bool = drop 54 b.bits in
-    let run = begins b.position rest in
-    let all : b.bits ≡ bits_of 54 word ++ rest = sym (take-append-drop 54 b.bits) ∙ ap (λ (s : List Bool). s ++ rest) (sym front) in
-    let left : drop bits b.bits ≡ drop bits (bits_of 54 word) ++ rest = ap (drop bits) all ∙ drop-append-le bits (bits_of 54 word) rest (omega (arith, most, length-bits_of 54 word)) in
-    let spelled : values_bits run.0 ≡ take bits (bits_of 54 word) = begun_bits word n bits b.position rest run.0 most run.2 shortest in
+pub word_taken : (n bits word : ℕ) (b : BufferedBits) → bits_of bits word ≡ take bits b.bits → Begins word n bits → Shortest word bits → bits ≤ 54 → TakesShortest n b (beyond b bits)
+word_taken n bits word b front begins shortest most =
+    let rest : List Bool = drop bits b.bits in
+    let run = begun_front word n bits b.position rest most begins in
+    let all : b.bits ≡ take bits (bits_of 54 word) ++ rest = sym (take-append-drop bits b.bits) ∙ ap (λ (s : List Bool). s ++ rest) (sym (take-bits_of bits 54 word most ∙ front)) in
     record {
       values = run.0;
       count = run.1;
-      reads = ap (reading (repeat n (vbr 6)) b.position) all ∙ run.2 ∙ ap (λ (s : List Bool). Ok (run.0, b.position + bits, s)) (sym left);
-      spelled = all
-          ∙ ap (λ (s : List Bool). s ++ rest) (sym (take-append-drop bits (bits_of 54 word)))
-          ∙ append_assoc (take bits (bits_of 54 word)) (drop bits (bits_of 54 word)) rest
-          ∙ ap (λ (s : List Bool). s ++ (drop bits (bits_of 54 word) ++ rest)) (sym spelled)
-          ∙ ap (λ (s : List Bool). values_bits run.0 ++ s) (sym left);
+      reads = ap (reading (repeat n (vbr 6)) b.position) all ∙ run.2;
+      spelled = all ∙ ap (λ (s : List Bool). s ++ rest) (sym (front_bits word n bits b.position rest run.0 most run.2 shortest));
     }
 
 -- a number that was read from these bits, and needs all of its chunks
@@ -142,18 +132,14 @@ plain_taken room code many a c d b few small first second taken =
 
 -- ---- a copy
 
--- bits that were read as a number
-pub taken_bits : (n value : ℕ) (b : BufferedBits) → n ≤ length b.bits → value ≡ number (take n b.bits) → bits_of n value ≡ take n b.bits
-taken_bits n value b there value_is = ap (bits_of n) value_is ∙ ap (λ (i : ℕ). bits_of i (number (take n b.bits))) (sym (length-take-le n b.bits there)) ∙ bits_of-number (take n b.bits)
-
 -- the last bits were copied
 pub copy_end : (n k m : ℕ) (from b : BufferedBits) (old now new : List Bool) → now ≡ old ++ take k from.bits → b ≡ beyond from k → new ≡ now ++ take n b.bits → m ≡ k + n → new ≡ old ++ take m from.bits
 copy_end n k m from b old now new now_is b_is new_is m_is =
     new_is ∙ ap (λ (s : List Bool). s ++ take n b.bits) now_is ∙ ap (λ (x : BufferedBits). (old ++ take k from.bits) ++ take n x.bits) b_is ∙ append_assoc old (take k from.bits) (take n (drop k from.bits)) ∙ ap (λ (s : List Bool). old ++ s) (sym (take-add k n from.bits)) ∙ ap (λ (i : ℕ). old ++ take i from.bits) (sym m_is)
 
 -- more bits were copied
-pub copy_on : (n k m : ℕ) (from b : BufferedBits) (old now new : List Bool) (value : ℕ) → now ≡ old ++ take k from.bits → b ≡ beyond from k → n ≤ length b.bits → value ≡ number (take n b.bits) → new ≡ now ++ bits_of n value → m ≡ k + n → new ≡ old ++ take m from.bits
-copy_on n k m from b old now new value now_is b_is there value_is new_is m_is = copy_end n k m from b old now new now_is b_is (new_is ∙ ap (λ (s : List Bool). now ++ s) (taken_bits n value b there value_is)) m_is
+pub copy_on : (n k m : ℕ) (from b : BufferedBits) (old now new : List Bool) (value : ℕ) → now ≡ old ++ take k from.bits → b ≡ beyond from k → bits_of n value ≡ take n b.bits → new ≡ now ++ bits_of n value → m ≡ k + n → new ≡ old ++ take m from.bits
+copy_on n k m from b old now new value now_is b_is value_is new_is m_is = copy_end n k m from b old now new now_is b_is (new_is ∙ ap (λ (s : List Bool). now ++ s) value_is) m_is
 
 pub beyond_on : (n k m : ℕ) (from b c : BufferedBits) → b ≡ beyond from k → c ≡ beyond b n → m ≡ k + n → c ≡ beyond from m
 beyond_on n k m from b c b_is c_is m_is =

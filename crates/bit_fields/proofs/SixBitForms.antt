@@ -17,7 +17,7 @@ use Rattle.bit_grammar.proofs.Readings.Sequences.{made}
 use Rattle.bit_grammar.proofs.Words.Fields.{AreChunks, chunks_are, joined, length-chunked}
 use Rattle.bit_fields.specs.SixBits.{NeedsAll, Shortest}
 use Rattle.bit_fields.proofs.BitLaws.{number-bits_mod, take-bits_of, bits_of-split, bits_of-number, bits_of-mod}
-use Rattle.bit_fields.proofs.SixBits.{any_after, word_apart, length-front}
+use Rattle.bit_fields.proofs.SixBits.{any_after, length-front}
 use Rattle.bit_fields.proofs.SixBitSums.{tops}
 
 -- ---- payloads
@@ -188,10 +188,6 @@ unfolding Shortest
 front_bits word count bits first rest values most e forms =
     let front : List Bool = take bits (bits_of 54 word) in
     forms count first values (ap (reading (repeat count (vbr 6)) first) (sym (append-nil front)) ∙ any_after (repeat count (vbr 6)) first bits front rest values (length-front word bits most) e [])
-
--- numbers in their shortest spelling, at the front of the bits of the word
-pub begun_bits : (word count bits first : ℕ) (rest : List Bool) (values : List ℕ) → bits ≤ 54 → reading (repeat count (vbr 6)) first (bits_of 54 word ++ rest) ≡ Ok (values, first + bits, drop bits (bits_of 54 word) ++ rest) → Shortest word bits → values_bits values ≡ take bits (bits_of 54 word)
-begun_bits word count bits first rest values most e forms = front_bits word count bits first (drop bits (bits_of 54 word) ++ rest) values most (ap (reading (repeat count (vbr 6)) first) (sym (word_apart word bits rest)) ∙ e) forms
 
 -- ---- as the code finds it
 

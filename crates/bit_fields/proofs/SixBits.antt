@@ -167,7 +167,7 @@ any_after rule first bits front rest value long e other =
     ap (λ (s : List Bool). reading rule first (s ++ other)) (sym same) ∙ reads rule first found.0 value other found.3 ∙ ap (λ (n : ℕ). Ok (value, first + n, other)) many
 
 -- the bits of a word in two parts
-pub word_apart : (word bits : ℕ) (rest : List Bool) → bits_of 54 word ++ rest ≡ take bits (bits_of 54 word) ++ (drop bits (bits_of 54 word) ++ rest)
+word_apart : (word bits : ℕ) (rest : List Bool) → bits_of 54 word ++ rest ≡ take bits (bits_of 54 word) ++ (drop bits (bits_of 54 word) ++ rest)
 word_apart word bits rest = ap (λ (s : List Bool). s ++ rest) (sym (take-append-drop bits (bits_of 54 word))) ∙ append_assoc (take bits (bits_of 54 word)) (drop bits (bits_of 54 word)) rest
 
 pub length-front : (word bits : ℕ) → bits ≤ 54 → length (take bits (bits_of 54 word)) ≡ bits

@@ -5,6 +5,7 @@ use Rattle.bit_grammar.specs.Bits.{bits_of, bits_of_bytes}
 use Rattle.bit_grammar.specs.Grammar.{repeat}
 use Rattle.bit_grammar.specs.Fields.{vbr}
 use Rattle.bit_fields.specs.Buffered.{BufferedBits, Reads, beyond}
+use Rattle.bit_fields.specs.SixBits.{TakesShortest}
 
 -- the bits from a place of bytes on
 abbrev pub bits_at : (start at : ℕ) → (bytes : List ℕ) → BufferedBits
@@ -24,3 +25,7 @@ pub record AreTops (n tops : ℕ) : Type 0 where
 abbrev pub HasNumbers : (n count : ℕ) → BufferedBits → (len : ℕ) → Type 0
 HasNumbers n count a len = (len ≤ length a.bits) × ((values : List ℕ) × (length values ≡ count)
     × Reads (repeat count (vbr n)) a values (beyond a len))
+
+-- numbers in chunks of six bits come first, so many, each in its shortest spelling, and take so many bits
+abbrev pub HasShortest : (count : ℕ) → BufferedBits → (len : ℕ) → Type 0
+HasShortest count a len = (len ≤ length a.bits) × TakesShortest count a (beyond a len)

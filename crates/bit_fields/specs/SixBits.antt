@@ -31,10 +31,6 @@ pub record TakesShortest (many : ℕ) (old new : BufferedBits) : Type 0 where
   pub reads : Reads (repeat many (vbr 6)) old values new
   pub spelled : old.bits ≡ values_bits values ++ new.bits
 
--- some numbers were taken so, at most this many
-abbrev pub TakesSome : (most count : ℕ) → (old new : BufferedBits) → Type 0
-TakesSome most count old new = (0 < count) × (count ≤ most) × TakesShortest count old new
-
 -- a number in chunks of six bits that was read from this many bits is in its shortest spelling: it needs its last chunk
 abbrev pub NeedsAll : (value bits : ℕ) → Type 0
 NeedsAll value bits = 6 < bits → 2 ^ (5 * (bits / 6 - 1)) ≤ value

@@ -165,53 +165,6 @@ impl<'a> Buffered<'a> {
         self.end - (u64::from(self.window.len()) + 8 * self.bytes.len() as u64)
     }
 
-    /// Skips up to 32 bits, if they are there, as reading them at once does.
-    #[inline(always)]
-    fn skip_part(&mut self, n: u32) -> Option<()>
-        requires { n ≤ 32 }
-        ensures { OnSome result (self.new ≡ beyond self.old n) }
-    {
-        self.fill();
-        if self.window.len() < n {
-            return None;
-        }
-        self.window.take(n);
-        Some(())
-    }
-
-    /// Skips up to 64 bits, if they are there. Bytes move into the window four at a time, as where fields are read: so it has the same
-    /// bits before the next field as if these bits had been read.
-    #[inline(always)]
-    pub(crate) fn skip_parts(&mut self, bits: u32) -> Option<()>
-        requires { bits ≤ 64 }
-        ensures { OnSome result (self.new ≡ beyond self.old bits) }
-    {
-        let first = bits.min(32);
-        self.skip_part(first)?;
-        if first == bits {
-            return Some(());
-        }
-        self.skip_part(bits - first)
-    }
-
-    /// Skips a number of up to 64 bits in chunks of six, if it is there, as reading it does: one of more than four chunks is skipped at
-    /// once, and the window then has a part of a byte at most.
-    #[inline(always)]
-    pub(crate) fn skip_number(&mut self, bits: u32) -> Option<()>
-        requires { bits ≤ 64 }
-        ensures { OnSome result (self.new ≡ beyond self.old bits) }
-    {
-        if bits <= 24 {
-            return self.skip_part(bits);
-        }
-        self.fill();
-        if self.len() < u64::from(bits) {
-            return None;
-        }
-        self.skip(u64::from(bits));
-        Some(())
-    }
-
     /// Moves four bytes into the window, if it has fewer than 32 bits and the bytes are there.
     #[inline(always)]
     fn fill(&mut self)
@@ -319,14 +272,6 @@ impl<'a> Buffered<'a> {
         }
         self.skip(bits);
         Some(value)
-    }
-
-    /// Whether the window has n bits, and none of those in the mask is set.
-    #[inline(always)]
-    pub(crate) fn window_has_none(&self, n: u32, mask: u64) -> bool
-        requires { n ≤ 32 }
-    {
-        self.window.len() >= n && self.window.peek(n) & mask == 0
     }
 
     /// Takes a number of one chunk of n bits, if it is in the window. Most numbers are such.
@@ -445,40 +390,6 @@ impl<'a> Buffered<'a> {
         let bytes = &self.bytes[..count];
         self.bytes = &self.bytes[count..];
         bytes
-    }
-
-    /// The next 54 bits as the low bits of a word, nine chunks of six bits, if eight bytes after the window are there.
-    #[inline(always)]
-    pub(crate) fn nine_chunks(&self) -> Option<u64>
-        ensures there { OnSome result (54 ≤ length self.now.bits) }
-        ensures front { IfSome result (λ word. bits_of 54 word ≡ take 54 self.now.bits) }
-    {
-        let held = self.window.len();
-        if self.bytes.len() < 8 || held > 63 {
-            return None;
-        }
-        let after = eight_of(self.bytes) & (u64::MAX >> held);
-        let mut front = self.window.copy();
-        front.push(after, 64 - held);
-        Some(front.parts().0)
-    }
-
-    /// Takes the number of the next n bits. 64 are there.
-    #[inline(always)]
-    pub(crate) fn take_bits(&mut self, n: u32) -> u64
-        requires few { n ≤ 32 }
-        requires there { 64 ≤ length self.old.bits }
-        ensures value { result ≡ number (take n self.old.bits) }
-        ensures rest { self.new ≡ beyond self.old n }
-        ensures below { result < 2 ^ n }
-    {
-        if self.window.len() < 32 {
-            match load(&mut self.window, self.bytes) {
-                Some(rest) => self.bytes = rest,
-                None => unreachable!(),
-            }
-        }
-        self.window.take(n)
     }
 
     /// How many bits are buffered.

@@ -38,9 +38,6 @@ mod packed_tests;
 mod placed;
 #[cfg(test)]
 mod placed_tests;
-mod plain;
-#[cfg(test)]
-mod plain_tests;
 mod reader;
 mod settled;
 mod sink;

@@ -2,11 +2,13 @@
 
 ghost use Rattle.std.specs.Prelude.{◌≤◌, length};
 
-use crate::{BufferedParts, ChunkTops, ChunkWidth, LoadedBits, PlacedBits};
+use crate::{Buffered, BufferedParts, ChunkTops, ChunkWidth, FieldWidth, LoadedBits, PlacedBits};
+use std::alloc::{AllocError, Global};
+use std::process::Abort;
 
 /// A load of the bits after the first `first`, if 64 are there.
 fn loaded_at(bytes: &[u8], first: u64) -> Option<LoadedBits<'_>>
-    requires { length bytes.now ≤ 64 }
+    requires { length bytes.now ≤ 65536 }
 {
     let parts = BufferedParts {
         word: 0,
@@ -126,4 +128,125 @@ fn few_numbers_of_any_width(rt: HostRuntime) {
             }
         }
     }
+}
+
+/// The bytes of an input: bits of which each fourth is a one, or after an odd seed three of four, so that numbers are long. They come
+/// from a generator by shifts.
+fn made(seed: u64) -> [u8; 56] {
+    let mut random = seed.wrapping_mul(0x9E37_79B9_7F4A_7C15) | 1;
+    let mut bytes = [0; 56];
+    for byte in &mut bytes {
+        random ^= random << 13;
+        random ^= random >> 7;
+        random ^= random << 17;
+        let (one, other) = (random >> 40, random >> 20);
+        let mixed = if seed % 2 == 0 {
+            one & other
+        } else {
+            one | other
+        };
+        *byte = (mixed & 0xFF) as u8;
+    }
+    bytes
+}
+
+/// A record as it is read number by number.
+#[derive(Drop)]
+struct Apart {
+    count: u64,
+    /// Whether each number is in its shortest spelling.
+    shortest: bool,
+    /// Whether each number ends before the last 64 bits, and begins 64 bits before these.
+    there: bool,
+}
+
+/// Reads the next number of a record.
+fn number_apart(buffered: &mut Buffered<'_>, apart: &mut Apart) -> Option<u64> {
+    let (first, left) = (buffered.position(), buffered.len());
+    let value = buffered.vbr(ChunkWidth { bits: 6 })?;
+    let digits = 64 - value.leading_zeros();
+    let chunks = (u64::from(digits.max(1)) + 4) / 5;
+    apart.shortest &= buffered.position().wrapping_sub(first) == 6 * chunks;
+    apart.there &= left >= 128 && buffered.len() >= 64;
+    Some(value)
+}
+
+/// Reads a record that is not abbreviated number by number.
+fn read_apart(buffered: &mut Buffered<'_>) -> Option<Apart> {
+    let mut apart = Apart {
+        count: 0,
+        shortest: true,
+        there: true,
+    };
+    number_apart(buffered, &mut apart)?;
+    let count = number_apart(buffered, &mut apart)?;
+    for _ in 0..count {
+        number_apart(buffered, &mut apart)?;
+    }
+    apart.count = count;
+    Some(apart)
+}
+
+/// Whether the record at the given bit of an input is taken as its bits, with the last eight bytes left out. If so, it is as it is
+/// read number by number, and each number is in its shortest spelling. If not, that is not so, or 64 bits are not there before each
+/// number, or the values are too many.
+fn is_taken(rt: &impl Abort, bytes: &[u8; 56], first: u64) -> bool {
+    let Some(loaded) = loaded_at(&bytes[..48], first) else {
+        return false;
+    };
+    let mut buffered = Buffered::new(BufferedParts {
+        word: 0,
+        held: 0,
+        bytes,
+        position: 0,
+    });
+    buffered.skip_fields(first.min(99), FieldWidth { bits: 1 });
+    let apart = read_apart(&mut buffered);
+    let len = buffered.position().wrapping_sub(first);
+    match (loaded.bits().plain_record(100, 102), apart) {
+        (Ok(taken), Some(apart)) => {
+            assert!(rt; taken == (apart.count, len) && apart.shortest);
+            true
+        }
+        (Ok(_), None) => panic!(rt; "a record that cannot be read is taken"),
+        (Err(_), Some(apart)) => {
+            assert!(rt; !(apart.shortest && apart.there && apart.count <= 100));
+            false
+        }
+        (Err(_), None) => false,
+    }
+}
+
+#[test]
+fn records_read_apart(rt: HostRuntime) {
+    let mut taken: u64 = 0;
+    for seed in 0..2000 {
+        let bytes = made(seed);
+        for first in 0..64 {
+            if is_taken(&rt, &bytes, first) {
+                taken = taken.wrapping_add(1);
+            }
+        }
+    }
+    assert!(rt; taken > 10_000, "{taken}");
+}
+
+/// What is taken of a record of zeros after these chunks, in so many bytes.
+fn zeros_taken(alloc: Global, front: u64, len: usize) -> Result<Option<(u64, u64)>, AllocError> {
+    let mut bytes = vec![in alloc; 0u8; len.max(8).min(40_000)]?;
+    bytes[..8].copy_from_slice(&front.to_le_bytes());
+    let Some(loaded) = loaded_at(&bytes, 0) else {
+        return Ok(None);
+    };
+    Ok(loaded.bits().plain_record(65_536, 65_537).ok())
+}
+
+#[test]
+fn record_of_many_values(rt: HostRuntime) {
+    // a code of 8 and a count of 40,000, in octal, the first chunk last; the second time with a chunk more
+    let (count, longer) = (0o01_47_42_40_10, 0o00_41_47_42_40_10);
+    let len = 6 * 40_005;
+    assert!(rt; zeros_taken(rt.alloc(), count, 30_020) == Ok(Some((40_000, len))));
+    assert!(rt; zeros_taken(rt.alloc(), count, 30_000) == Ok(None));
+    assert!(rt; zeros_taken(rt.alloc(), longer, 30_020) == Ok(None));
 }

@@ -79,15 +79,3 @@ pub(crate) fn is_shortest(word: u64, bits: u32) -> bool
     let idle = later & !(word | worth) & ((1 << bits) - 1);
     idle == 0
 }
-
-/// Whether each number in the first `bits` bits has at most four chunks.
-#[inline(always)]
-pub(crate) fn are_short(word: u64, bits: u32) -> bool
-    requires { bits ≤ 54 }
-{
-    let goes_on = word & TOPS & ((1 << bits) - 1);
-    let two = goes_on & goes_on >> 6;
-    // the first of four chunks that go on
-    let four = two & two >> 12;
-    four == 0
-}

@@ -1,6 +1,6 @@
 //! Numbers in chunks of six bits, in a word.
 
-use crate::six_bits::{are_short, is_shortest, numbers_in};
+use crate::six_bits::{is_shortest, numbers_in};
 
 #[test]
 fn counted(rt: HostRuntime) {
@@ -46,23 +46,5 @@ fn shortest(rt: HostRuntime) {
         (0o00_00_77_37_77_37_77_00_41, 48, false),
     ] {
         assert!(rt; is_shortest(word, bits.min(54)) == answer);
-    }
-}
-
-#[test]
-fn short(rt: HostRuntime) {
-    for (word, bits, answer) in [
-        (0o77_77_77_77_77_77_77_77_77, 0, true),
-        (0o77_77_77_77_77_01_40_40_40, 24, true),
-        (0o77_77_77_77_01_40_40_40_40, 30, false),
-        (0o77_77_77_01_40_40_40_40_05, 36, false),
-        (0o77_01_40_40_40_40_05_05_05, 48, false),
-        (0o01_40_40_40_40_05_05_05_05, 54, false),
-        (0o01_01_40_40_40_05_05_05_05, 54, true),
-        (0o40_40_40_40_01_40_40_40_05, 30, true),
-        (0o01_40_40_40_01_40_40_40_05, 54, true),
-        (0o01_40_40_40_40_40_40_40_40, 54, false),
-    ] {
-        assert!(rt; are_short(word, bits.min(54)) == answer);
     }
 }

@@ -4,11 +4,12 @@ ghost use Rattle.std.specs.Prelude.{◌≡◌, ◌+◌, ◌*◌, ◌/◌, ◌%�
 ghost use Rattle.bit_grammar.specs.Bits.{bits_of};
 ghost use Rattle.bit_grammar.specs.FormatFields.{shortest};
 ghost use Rattle.bit_grammar.specs.Normal.{entry_text, padding, values_bits};
+ghost use Rattle.bit_fields.specs.PlacedView.{placed};
 ghost use Rattle.bit_fields.specs.Texts.{bits_of_words, with_word};
 ghost use Rattle.bit_fields.specs.Writer.{Writes};
 
-use crate::buffered::Buffered;
 use crate::fault::Fault;
+use crate::placed::PlacedBits;
 use crate::sink::Sink;
 use crate::window::Window;
 use crate::word_list::Words;
@@ -151,15 +152,33 @@ impl BitText {
 
     /// Appends the first `count` of buffered bits, of which 64 more are there.
     #[inline]
-    pub fn copy(&mut self, from: Buffered<'_>, count: u64) -> Result<(), AllocError>
-        requires there { count + 64 ≤ length from.bits }
+    pub fn copy(&mut self, from: PlacedBits<'_>, count: u64) -> Result<(), AllocError>
+        requires there { count + 64 ≤ length (placed from).bits }
         requires room { length self.old + count < 2 ^ 62 }
-        ensures { OnOk result (self.new ≡ self.old ++ take count from.entry.bits) }
+        ensures { OnOk result (self.new ≡ self.old ++ take count (placed from.entry).bits) }
     {
         if let Err(AllocError) = add_copy(&mut self.words, &mut self.window, from, count) {
             self.words.clear();
             self.window = Window::new();
             return Err(AllocError);
+        }
+        Ok(())
+    }
+
+    /// Appends an abbreviation id of 3 in two bits, and the first `count` of buffered bits, at most 54.
+    #[inline(always)]
+    pub fn short_plain(&mut self, from: PlacedBits<'_>, count: u64) -> Result<(), AllocError>
+        requires few { count ≤ 54 }
+        requires there { 64 ≤ length (placed from).bits }
+        requires room { length self.old < 2 ^ 62 }
+        ensures { OnOk result (self.new
+            ≡ self.old ++ (bits_of 2 3 ++ take count (placed from.entry).bits)) }
+    {
+        let word = 3 + 4 * from.front(count as u32);
+        let first = count.min(30) as u32 + 2;
+        self.fixed(first, word & 0xFFFF_FFFF)?;
+        if count > 30 {
+            return self.fixed(count as u32 - 30, word >> 32);
         }
         Ok(())
     }
@@ -502,21 +521,23 @@ fn add_record<U>(
 }
 
 /// Appends buffered bits to words and a window, which stays in registers meanwhile. If an allocation fails, the bits are undefined.
+#[inline(never)]
 fn add_copy(
     words: &mut Words,
     window: &mut Window,
-    from: Buffered<'_>,
+    from: PlacedBits<'_>,
     count: u64,
 ) -> Result<(), AllocError>
-    requires { count + 64 ≤ length from.bits }
+    requires { count + 64 ≤ length (placed from).bits }
     ensures { OnOk result (bits_of_words words.new ++ window.new
-        ≡ (bits_of_words words.old ++ window.old) ++ take count from.entry.bits) }
+        ≡ (bits_of_words words.old ++ window.old) ++ take count (placed from.entry).bits) }
 {
     let mut pen = window.copy();
     let mut from = from;
     let mut left = count;
     while left >= 32 {
-        add_field(words, &mut pen, 32, from.take_bits(32))?;
+        add_field(words, &mut pen, 32, from.front(32))?;
+        from = from.after(32);
         left -= 32;
     }
     add_last(words, &mut pen, left as u32, from)?;
@@ -531,15 +552,14 @@ fn add_last(
     words: &mut Words,
     window: &mut Window,
     n: u32,
-    from: Buffered<'_>,
+    from: PlacedBits<'_>,
 ) -> Result<(), AllocError>
     requires few { n ≤ 32 }
-    requires there { 64 ≤ length from.bits }
+    requires there { 64 ≤ length (placed from).bits }
     ensures { OnOk result (bits_of_words words.new ++ window.new
-        ≡ (bits_of_words words.old ++ window.old) ++ take n from.entry.bits) }
+        ≡ (bits_of_words words.old ++ window.old) ++ take n (placed from.entry).bits) }
 {
-    let mut from = from;
-    let value = from.take_bits(n);
+    let value = from.front(n);
     if window.len() + n >= 64 {
         return add_field(words, window, n, value);
     }

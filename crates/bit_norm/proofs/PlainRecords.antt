@@ -1,11 +1,11 @@
 -- Records that are not abbreviated, whose bits a form has as well.
-use Rattle.std.proofs.Common.{◌≡◌, ℕ, ◌+◌, ◌-◌, ◌^◌, ◌<◌, ◌≤◌, true, false, Bool, List, ◌++◌, length, take, Option, Some, None, Result, Ok, Err, IfOk, refl, ap, ◌∙◌, arith, length-append}
+use Rattle.std.proofs.Common.{◌≡◌, ℕ, ◌+◌, ◌^◌, ◌<◌, ◌≤◌, true, false, Bool, List, ◌++◌, length, take, drop, Option, Some, None, Result, Ok, Err, IfOk, refl, ap, ◌∙◌, arith, length-append}
 use Rattle.std.proofs.lemmas.List.{take_at}
 use Rattle.bit_grammar.specs.Bits.{bits_of}
 use Rattle.bit_grammar.specs.Normal.{entry_text}
 use Rattle.bit_grammar.specs.Record.{unabbreviated}
 use Rattle.bit_grammar.proofs.Bits.Numbers.{length-bits_of}
-use Rattle.bit_fields.specs.Buffered.{BufferedBits}
+use Rattle.bit_fields.specs.Buffered.{BufferedBits, beyond}
 use Rattle.bit_fields.specs.SixBits.{TakesPlain}
 use Rattle.bit_fields.proofs.BufferedReads.{reads_passed}
 use Rattle.bit_events.specs.declared.gatherer.PlainRecord.{PlainRecord}
@@ -21,25 +21,27 @@ pub record Copied (code : ℕ) (values : List ℕ) (bits : ℕ) (a : BufferedBit
   pub there : bits + 64 ≤ length a.bits
   pub front : take bits a.bits ≡ entry_text code values
 
-pub copied : (room code many bits : ℕ) (a b : BufferedBits) (t : TakesPlain room a code many b) → 64 ≤ length b.bits → bits ≡ b.position - a.position → Copied code t.values bits a
-copied room code many bits a b t more is =
+pub copied : (room code many bits : ℕ) (a : BufferedBits) (t : TakesPlain room a code many (beyond a bits)) → 64 ≤ length (drop bits a.bits) → Copied code t.values bits a
+copied room code many bits a t more =
     let text = entry_text code t.values in
-    let passed = reads_passed (unabbreviated room) a (record { code = code; values = t.values }) b t.reads in
-    let all : length a.bits ≡ length text + length b.bits = ap length t.spelled ∙ length-append text b.bits in
-    let same : length text ≡ bits = omega (arith, all, is, passed.2, ap length passed.1, length-append passed.0 b.bits) in
+    let left = drop bits a.bits in
+    let passed = reads_passed (unabbreviated room) a (record { code = code; values = t.values }) (beyond a bits) t.reads in
+    let all : length a.bits ≡ length text + length left = ap length t.spelled ∙ length-append text left in
+    let same : length text ≡ bits = omega (arith, all, passed.2, ap length passed.1, length-append passed.0 left) in
     record {
       few = omega (arith, same, entry_few code t.values, length-append (bits_of 2 3) text, length-bits_of 2 3, t.count, t.small);
       there = omega (arith, all, same, more);
-      front = ap (take bits) t.spelled ∙ take_at text b.bits bits same;
+      front = ap (take bits) t.spelled ∙ take_at text left bits same;
     }
 
-pub plain_added : (room code many bits : ℕ) (a b : BufferedBits) (old new : FormBuilder) (t : TakesPlain room a code many b) → Copied code t.values bits a → new.standing ≡ old.standing → new.limits ≡ old.limits → new.holes ≡ old.holes → new.long ≡ old.long → old.long ≡ false → record_left old.standing code ≡ true
-    → new.text ≡ old.text ++ (bits_of 2 3 ++ take bits a.bits) → AddsPlain room a old (Some (record { count = many; after = b })) new
-plain_added room code many bits a b old new t c standing limits holes long short left adds = (
+pub plain_added : (room code many bits : ℕ) (a : BufferedBits) (old new : FormBuilder) (t : TakesPlain room a code many (beyond a bits)) → Copied code t.values bits a → new.standing ≡ old.standing → new.limits ≡ old.limits → new.holes ≡ old.holes → new.long ≡ old.long → old.long ≡ false → record_left old.standing code ≡ true
+    → new.text ≡ old.text ++ (bits_of 2 3 ++ take bits a.bits) → AddsPlain room a old (Some (record { count = many; len = bits })) new
+plain_added room code many bits a old new t c standing limits holes long short left adds = (
   code,
   t.values,
   t.count,
   t.few,
+  c.there,
   t.reads,
   record_added code t.values old new short left (standing, limits) holes long (adds ∙ ap (λ (s : List Bool). old.text ++ (bits_of 2 3 ++ s)) c.front),
 )
@@ -53,7 +55,8 @@ plain_gathered room a old new (Some taken) added = (
   added.2,
   added.3,
   added.4,
-  λ first begun done deepest was stands. added.5 begun done (record { abbreviation = 3; code = added.0; values = added.1; first = first; after = taken.after.position }) refl refl was stands,
+  added.5,
+  λ first begun done deepest was stands. added.6 begun done (record { abbreviation = 3; code = added.0; values = added.1; first = first; after = a.position + taken.len }) refl refl was stands,
 )
 
 pub any_gathered : {E : Type 0} (room : ℕ) (a : BufferedBits) (old new : FormBuilder) (r : Result (Option PlainRecord) E) → IfOk r (λ taken. AddsPlain room a old taken new) → IfOk r (λ taken. GathersPlain IsFormOf room a old taken new)

@@ -10,7 +10,7 @@ use Rattle.bit_grammar.specs.Marks.{RecordMark}
 use Rattle.bit_grammar.specs.Normal.{values_bits, end_text, normal}
 use Rattle.bit_grammar.specs.Record.{unabbreviated}
 use Rattle.bit_grammar.specs.Size.{end_of}
-use Rattle.bit_fields.specs.Buffered.{BufferedBits, Reads}
+use Rattle.bit_fields.specs.Buffered.{BufferedBits, Reads, beyond}
 use Rattle.bit_events.specs.Runs.{StaysGathered}
 use Rattle.bit_events.specs.declared.gatherer.PlainRecord.{PlainRecord}
 use Rattle.bit_events.specs.Gathering.{left_open}
@@ -162,8 +162,8 @@ GrowsTo all limit false new = limit < length all / 8
 abbrev pub AddsPlain : (room : ℕ) → BufferedBits → FormBuilder → Option PlainRecord → FormBuilder → Type 0
 AddsPlain room a old None new = StaysGathered IsFormOf old new
 AddsPlain room a old (Some taken) new = (code : ℕ) × (list : List ℕ)
-    × (length list ≡ taken.count) × (taken.count ≤ room)
-    × Reads (unabbreviated room) a (record { code = code; values = list }) taken.after
+    × (length list ≡ taken.count) × (taken.count ≤ room) × (taken.len + 64 ≤ length a.bits)
+    × Reads (unabbreviated room) a (record { code = code; values = list }) (beyond a taken.len)
     × AddsRecord code list old new
 
 -- the normal form of the kept events, after the magic

@@ -4,6 +4,7 @@ ghost use Rattle.bit_grammar.specs.Machine.{Event};
 ghost use Rattle.bit_grammar.specs.Setting.{setting_of};
 ghost use Rattle.bit_grammar.specs.Normal.{most_bytes, values_bits, end_text};
 ghost use Rattle.bit_events.specs.Gathering.{left_open};
+ghost use Rattle.bit_fields.specs.PlacedView.{placed};
 ghost use Rattle.bit_fields.specs.Texts.{with_word};
 ghost use Rattle.bit_events.specs.MachineView.{TookSome};
 ghost use Rattle.bit_norm.specs.Building.{HasTaken, record_left, AddsPlain, AddsRecord, GrowsTo, IsFormOf, StaysAs, BuildsBlock, BuildsEnd, BuildsRecord, IsTooLong, IsWholeForm};
@@ -12,7 +13,7 @@ ghost use Rattle.bit_norm.specs.Writing.{record_front, record_text, enter_text};
 use crate::form_values::{FormValues, is_long};
 use bit_abbrev::Abbrev;
 use bit_events::{Gatherer, OpenBlocks, PlainRecord};
-use bit_fields::{BitText, Buffered, Limits};
+use bit_fields::{BitText, Limits, PlacedBits};
 use bit_tree::Info;
 use std::alloc::{AllocError, Global};
 
@@ -76,12 +77,15 @@ fn add_short_record<U>(text: &mut BitText, code: u64, values: &[u64]) -> Result<
 
 /// Adds a record that has these bits after its id.
 #[inline(always)]
-fn add_copy(text: &mut BitText, from: Buffered<'_>, bits: u64) -> Result<(), AllocError>
+fn add_copy(text: &mut BitText, from: PlacedBits<'_>, bits: u64) -> Result<(), AllocError>
     requires few { length text.old < 2 ^ 38 }
     requires small { bits < 2 ^ 32 }
-    requires there { bits + 64 ≤ length from.bits }
-    ensures { OnOk result (text.new ≡ text.old ++ (bits_of 2 3 ++ take bits from.entry.bits)) }
+    requires there { bits + 64 ≤ length (placed from).bits }
+    ensures { OnOk result (text.new ≡ text.old ++ (bits_of 2 3 ++ take bits (placed from.entry).bits)) }
 {
+    if bits <= 54 {
+        return text.short_plain(from, bits);
+    }
     text.fixed(2, 3)?;
     text.copy(from, bits)
 }
@@ -310,33 +314,30 @@ impl<'a> FormBuilder<'a> {
     }
 
     /// Adds a record that is not abbreviated, from the buffered bits after its id, if each of its numbers is in its shortest spelling
-    /// and all records of its block are kept. Returns the number of its values and the bits after it, or `None`, and then nothing is
-    /// added.
+    /// and all records of its block are kept. Returns the number of its values and its length, or `None`, and then nothing is added.
     #[inline(always)]
-    fn add_plain<'b>(
+    fn add_plain(
         &mut self,
-        buffered: Buffered<'b>,
+        bits: PlacedBits<'_>,
         room: u64,
-    ) -> Result<Option<PlainRecord<'b>>, AllocError>
-        ensures { IfOk result (λ taken. AddsPlain room buffered.entry self.old taken self.new) }
+    ) -> Result<Option<PlainRecord>, AllocError>
+        ensures { IfOk result (λ taken. AddsPlain room (placed bits.entry) self.old taken self.new) }
     {
         if self.long || !self.standing.is_whole() || is_long(&self.text, self.limits) {
             return Ok(None);
         }
-        let mut after = buffered.copy();
-        let count = match after.plain_record(room, self.most_in_vain()) {
-            Ok(count) => count,
+        let (count, len) = match bits.plain_record(room, self.most_in_vain()) {
+            Ok(found) => found,
             Err(numbers) => {
                 self.vain = self.vain.saturating_add(numbers);
                 return Ok(None);
             }
         };
-        if after.len() < 64 {
+        if !bits.after(len).has(64) {
             return Ok(None);
         }
-        let bits = after.position() - buffered.position();
-        add_copy(&mut self.text, buffered, bits)?;
-        Ok(Some(PlainRecord { count, after }))
+        add_copy(&mut self.text, bits, len)?;
+        Ok(Some(PlainRecord { count, len }))
     }
 }
 
@@ -381,21 +382,18 @@ impl<'a> Gatherer for FormBuilder<'a> {
     }
 
     #[inline(always)]
-    fn takes_plain(&self, buffered: &Buffered<'_>) -> bool {
-        !buffered.is_tiny_record()
-            && !self.long
-            && self.standing.is_whole()
-            && self.most_in_vain() >= FEW_IN_VAIN
+    fn takes_plain(&self) -> bool {
+        !self.long && self.standing.is_whole() && self.most_in_vain() >= FEW_IN_VAIN
     }
 
     /// A record whose numbers are all in their shortest spelling has the same bits in the form.
     #[inline(always)]
-    fn plain<'b>(
+    fn plain(
         &mut self,
-        buffered: &Buffered<'b>,
+        bits: PlacedBits<'_>,
         room: u64,
-    ) -> Result<Option<PlainRecord<'b>>, AllocError> {
-        self.add_plain(buffered.copy(), room)
+    ) -> Result<Option<PlainRecord>, AllocError> {
+        self.add_plain(bits, room)
     }
 
     fn leave(&mut self, _after: u64) -> Result<(), AllocError> {

@@ -46,10 +46,11 @@ impl<S: Source, G: Gatherer> Folding<S, G> {
         if frame.info.is_some() {
             return Ok(());
         }
-        let buffered = Buffered::new(self.reader.buffered_parts()?);
+        let parts = self.reader.buffered_parts()?;
+        let buffered = Buffered::new(parts);
         let start = buffered.position();
-        let used = &mut self.machine.used;
-        match gather_records(buffered, frame, limits, used, &mut self.gatherer, values) {
+        let (used, gatherer) = (&mut self.machine.used, &mut self.gatherer);
+        match gather_records(parts, buffered, frame, limits, used, gatherer, values) {
             Ok(after) => self.reader.catch_up(after.saturating_sub(start)),
             Err(_) => Err(self.reader.fail(Fault::Memory)),
         }

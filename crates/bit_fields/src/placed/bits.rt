@@ -3,7 +3,7 @@
 ghost use Rattle.std.specs.Prelude.{ℕ, ◌≡◌, ◌+◌, ◌-◌, ◌*◌, ◌^◌, ◌<◌, ◌≤◌, length, take, true, IfSome};
 ghost use Rattle.std.specs.Int.{w64, bit_not};
 ghost use Rattle.bit_grammar.specs.Bits.{bits_of};
-ghost use Rattle.bit_grammar.specs.Fields.{fixed};
+ghost use Rattle.bit_grammar.specs.Fields.{fixed, vbr};
 ghost use Rattle.bit_fields.specs.Buffered.{Reads, beyond};
 ghost use Rattle.bit_fields.specs.BufferedParts.{bits_of_parts, AreParts};
 ghost use Rattle.bit_fields.specs.Placed.{HasNumbers, Shows, bits_at};
@@ -69,7 +69,7 @@ impl<'a> PlacedBits<'a> {
 
     /// The complement of the next 57 bits or more, and zeros behind them.
     #[inline(always)]
-    fn ends(self) -> u64
+    pub(crate) fn ends(self) -> u64
         requires { 64 ≤ length (placed self).bits }
         ensures shows { Shows result (placed self.entry).bits }
         ensures front { (n : ℕ) → n ≤ 57
@@ -91,6 +91,17 @@ impl<'a> PlacedBits<'a> {
         }
     }
 
+    /// The first n bits as a word, of none if n is 0.
+    #[inline(always)]
+    pub fn front(self, n: u32) -> u64
+        requires few { n ≤ 57 }
+        requires there { 64 ≤ length (placed self).bits }
+        ensures front { bits_of n result ≡ take n (placed self.entry).bits }
+        ensures below { result < 2 ^ n }
+    {
+        !self.ends() & ((1 << n) - 1)
+    }
+
     /// The first n bits as a number, of none if n is 0.
     #[inline(always)]
     pub fn fixed(self, n: u32) -> u64
@@ -98,13 +109,30 @@ impl<'a> PlacedBits<'a> {
         requires there { 64 ≤ length (placed self).bits }
         ensures { Reads (fixed n) (placed self.entry) result (beyond (placed self.entry) n) }
     {
-        !self.ends() & ((1 << n) - 1)
+        self.front(n)
+    }
+
+    /// A number in chunks of n bits and its length, or a length of 0 if it is not there. Few numbers are long.
+    #[cold]
+    #[inline(never)]
+    pub(crate) fn far(self, n: u32) -> (u64, u64)
+        requires least { 2 ≤ n }
+        requires most { n ≤ 32 }
+        ensures { 0 < result.1 → Reads (vbr n) (placed self.entry) result.0
+            (beyond (placed self.entry) result.1) }
+    {
+        let mut buffered = Buffered::of(
+            &self.bytes[(self.at >> 3) as usize..],
+            self.start + (self.at & !7),
+        );
+        buffered.skip(self.at & 7);
+        buffered.far_vbr(ChunkWidth { bits: n })
     }
 
     /// The length of a number in chunks of n bits that is long, if it is there.
     #[cold]
     #[inline(never)]
-    fn long(self, n: u32) -> Option<u64>
+    pub(crate) fn long(self, n: u32) -> Option<u64>
         requires least { 2 ≤ n }
         requires most { n ≤ 32 }
         ensures has { IfSome result (λ len. HasNumbers n 1 (placed self.entry) len) }
@@ -115,24 +143,19 @@ impl<'a> PlacedBits<'a> {
                 return Some(len);
             }
         }
-        let buffered = Buffered::of(
-            &self.bytes[(self.at >> 3) as usize..],
-            self.start + (self.at & !7),
-        );
-        let mut buffered = buffered;
-        buffered.skip(self.at & 7);
-        let (_, bits) = buffered.far_vbr(ChunkWidth { bits: n });
-        if bits == 0 {
+        let (_, len) = self.far(n);
+        if len == 0 {
             return None;
         }
-        Some(bits)
+        Some(len)
     }
 
     /// The length of a number of ten to thirteen chunks of six bits, if 128 bits are there.
     #[inline(always)]
-    fn long_six(self) -> Option<u64>
+    pub(crate) fn long_six(self) -> Option<u64>
         ensures has { IfSome result (λ len. HasNumbers 6 1 (placed self.entry) len) }
-        ensures some { IfSome result (λ len. 0 < len) }
+        ensures least { IfSome result (λ len. 60 ≤ len) }
+        ensures most { IfSome result (λ len. len ≤ 78) }
     {
         if !self.has(128) || self.ends() & TOPS != 0 {
             return None;

@@ -4,12 +4,14 @@ use Rattle.bit_grammar.specs.Fields.{fixed}
 use Rattle.bit_grammar.specs.Terms.{CodeAndValues}
 use Rattle.bit_grammar.specs.Blocks.{entry}
 use Rattle.bit_fields.specs.Buffered.{BufferedBits, beyond, reader_at}
+use Rattle.bit_fields.specs.BufferedParts.{bits_of_parts}
 use Rattle.bit_fields.proofs.BufferedReads.{reads_forward, took_reads}
 use Rattle.bit_events.specs.FrameView.{frame_shown, info_shown}
 use Rattle.bit_events.specs.Gathering.{Gathers}
 use Rattle.bit_events.specs.MachineView.{record_of}
-use Rattle.bit_events.specs.Runs.{GathersFrom, GathersTo}
-use Rattle.bit_events.proofs.Runs.{added_behind, gathers_none, gathers_more, gathers_still, gathers_then, reached, record_seen, stop_later, stop_record}
+use Rattle.bit_events.specs.Runs.{GathersFrom, GathersTo, Passed}
+use Rattle.bit_events.proofs.Counting.{later_bits}
+use Rattle.bit_events.proofs.Runs.{added_behind, gathers_none, gathers_more, gathers_still, gathers_then, passed_more, reached, record_seen, stop_later, stop_record}
 use Rattle.bit_events.proofs.running.gather_records.Goals as goal
 
 pub loop-id-init : goal.loop-id-init
@@ -28,6 +30,20 @@ returns-in_err-after-clause-took g c = (let was = c.loop-id.invariant.took in ([
 
 pub returns-in_default-read_entry-clause-took : goal.returns-in_default-read_entry-clause-took
 returns-in_default-read_entry-clause-took g c = (let was = c.loop-id.invariant.took in c.in_default-read_entry.ensures.keeps [] (c.truncate.ensures [] was.0 was.1 refl))
+
+pub gather_as_bits-requires-clause-there : goal.gather_as_bits-requires-clause-there
+gather_as_bits-requires-clause-there g c =
+    let bits = bits_of_parts c.args.parts in
+    let b = c.record_id.new.buffered in
+    let passed = passed_more (fixed c.args.frame.now.head.width) c.args.buffered c.loop-id.buffered c.in-Some.id b c.loop-id.invariant.gathers.passed c.in-Some.ensures.reads in
+    (later_bits bits (c.args.buffered.position - bits.position) b c.requires.there (subst (λ (x : BufferedBits). Passed x b) c.requires.here passed)).1
+
+pub gather_as_bits-requires-clause-here : goal.gather_as_bits-requires-clause-here
+gather_as_bits-requires-clause-here g c =
+    let bits = bits_of_parts c.args.parts in
+    let b = c.record_id.new.buffered in
+    let passed = passed_more (fixed c.args.frame.now.head.width) c.args.buffered c.loop-id.buffered c.in-Some.id b c.loop-id.invariant.gathers.passed c.in-Some.ensures.reads in
+    (later_bits bits (c.args.buffered.position - bits.position) b c.requires.there (subst (λ (x : BufferedBits). Passed x b) c.requires.here passed)).2
 
 pub skip-requires : goal.skip-requires
 skip-requires g c =

@@ -1,5 +1,5 @@
-use Rattle.std.proofs.Common.{◌-◌, ◌+◌, ◌≡◌, ◌++◌, ◌∙◌, ap, length, arith, length-drop}
-use Rattle.bit_fields.specs.Buffered.{BufferedBits}
+use Rattle.std.proofs.Common.{◌-◌, ◌+◌, ◌≡◌, ◌++◌, arith}
+use Rattle.bit_fields.specs.PlacedView.{placed}
 use Rattle.bit_fields.specs.Texts.{bits_of_words}
 use Rattle.bit_fields.proofs.PlainRecords.{copy_end, copy_on, beyond_on}
 use Rattle.bit_fields.proofs.text.add_copy.Goals as goal
@@ -9,10 +9,9 @@ loop-left-preserved c =
     let l = c.loop-left in
     let k = c.args.count - l.left in
     let more : c.args.count - (l.left - 32) ≡ k + 32 = omega (arith, l.invariant.few, c.loop-left-test.true) in
-    let left : length l.from.bits ≡ length c.args.from.bits - k = ap (λ (a : BufferedBits). length a.bits) l.invariant.from ∙ length-drop k c.args.from.bits in
     record {
-      copied = copy_on 32 k (c.args.count - (l.left - 32)) c.args.from l.from (bits_of_words c.args.words.now ++ c.args.window.now) (bits_of_words l.words ++ l.pen) (bits_of_words c.add_field.new.words ++ c.add_field.new.window) c.take_bits.result l.invariant.copied l.invariant.from (omega (arith, left, c.requires, l.invariant.few, c.loop-left-test.true)) c.take_bits.ensures.value c.in_ok-add_field.ensures.ok more;
-      from = beyond_on 32 k (c.args.count - (l.left - 32)) c.args.from l.from c.take_bits.new.self l.invariant.from c.take_bits.ensures.rest more;
+      copied = copy_on 32 k (c.args.count - (l.left - 32)) (placed c.args.from) (placed l.from) (bits_of_words c.args.words.now ++ c.args.window.now) (bits_of_words l.words ++ l.pen) (bits_of_words c.add_field.new.words ++ c.add_field.new.window) c.front.result l.invariant.copied l.invariant.from c.front.ensures.front c.in_ok-add_field.ensures.ok more;
+      from = beyond_on 32 k (c.args.count - (l.left - 32)) (placed c.args.from) (placed l.from) (placed c.after-from.result) l.invariant.from c.after-from.ensures.rest more;
       few = omega (arith, l.invariant.few);
     }
 
@@ -21,4 +20,4 @@ returns c =
     let l = c.loop-left in
     let k = c.args.count - l.left in
     let all : c.args.count ≡ k + l.left = omega (arith, l.invariant.few) in
-    copy_end l.left k c.args.count c.args.from l.from (bits_of_words c.args.words.now ++ c.args.window.now) (bits_of_words l.words ++ l.pen) (bits_of_words c.add_last.new.words ++ c.add_last.new.window) l.invariant.copied l.invariant.from c.in_ok-add_last.ensures all
+    copy_end l.left k c.args.count (placed c.args.from) (placed l.from) (bits_of_words c.args.words.now ++ c.args.window.now) (bits_of_words l.words ++ l.pen) (bits_of_words c.add_last.new.words ++ c.add_last.new.window) l.invariant.copied l.invariant.from c.in_ok-add_last.ensures all
