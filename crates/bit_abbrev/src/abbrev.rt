@@ -189,6 +189,12 @@ impl Abbrev {
         self.ops.as_slice()
     }
 
+    /// What follows
+    #[inline(always)]
+    pub fn tail_len(&self) -> usize {
+        self.tail.len()
+    }
+
     /// What follows the operands that stand for one value each.
     #[inline(always)]
     pub(crate) fn tail(&self) -> Tail

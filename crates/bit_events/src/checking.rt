@@ -57,6 +57,7 @@ impl Gatherer for Nothing {
         bits: PlacedBits<'_>,
         width: u32,
         plans: &[Plan],
+        _definitions: &bit_abbrev::InForce,
         room: u64,
     ) -> Result<PassedRun, AllocError> {
         pass_records(bits, width, plans, room, &mut Uncounted)

@@ -7,7 +7,7 @@ ghost use Rattle.bit_events.specs.Passing.{PassesRun};
 ghost use Rattle.bit_events.specs.Runs.{GathersPlain};
 
 use crate::passing::PassedRun;
-use bit_abbrev::{Abbrev, Plan};
+use bit_abbrev::{Abbrev, InForce, Plan};
 use bit_fields::{PlacedBits, ValueTaker};
 use std::alloc::AllocError;
 
@@ -117,6 +117,7 @@ pub trait Gatherer {
         bits: PlacedBits<'_>,
         width: u32,
         _plans: &[Plan],
+        _definitions: &InForce,
         room: u64,
     ) -> Result<PassedRun, AllocError>
         requires { width ≤ 32 }

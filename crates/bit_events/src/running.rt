@@ -287,7 +287,7 @@ fn pass_placed<G: Gatherer>(
         });
     };
     let room = limits.values().saturating_sub(*used);
-    let run = gatherer.pass(bits, u32::from(frame.head.width), plans, room)?;
+    let run = gatherer.pass(bits, u32::from(frame.head.width), plans, &frame.definitions, room)?;
     *used += room - run.room;
     Ok(GatheredRun {
         after: run.after,
@@ -410,9 +410,7 @@ pub(crate) fn count_records<G: Gatherer>(
     if run.is_over {
         return Ok(run.after);
     }
-    count_on(
-        parts, run.after, loaded, frame, limits, used, gatherer, values,
-    )
+    count_on(parts, run.after, loaded, frame, limits, used, gatherer, values)
 }
 
 /// The same, if the next record is odd. Whether the last ones are read depends on where the window ends: so it ends at `loaded`, as

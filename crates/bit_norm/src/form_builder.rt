@@ -12,8 +12,9 @@ ghost use Rattle.bit_norm.specs.Writing.{record_front, record_text, enter_text};
 
 use crate::form_values::{FormValues, is_long};
 use bit_abbrev::Abbrev;
-use bit_events::{Gatherer, OpenBlocks, PlainRecord};
-use bit_fields::{BitText, Limits, PlacedBits};
+use bit_events::{Gatherer, OpenBlocks, PassedRun, PlainRecord};
+use bit_fields::{BitText, Limits, PlacedBits, put, put_number};
+use bit_grammar::Op;
 use bit_tree::Info;
 use std::alloc::{AllocError, Global};
 
@@ -341,6 +342,359 @@ impl<'a> FormBuilder<'a> {
     }
 }
 
+/// The place after some operands, in the bits and in the bytes.
+#[inline(always)]
+fn write_ops<'a>(
+    bytes: &mut [u8],
+    at: u64,
+    fields: PlacedBits<'a>,
+    ops: &[Op],
+) -> Option<(u64, PlacedBits<'a>)> {
+    let mut bits = fields;
+    let mut pen = at;
+    let mut at = 1;
+    while at < ops.len() {
+        match ops[at] {
+            Op::Literal(value) => pen = put_number(bytes, pen, value),
+            Op::Fixed(width) => {
+                pen = put_number(bytes, pen, bits.front(u32::from(width)));
+                bits = bits.after(u64::from(width));
+            }
+            Op::Vbr(6) => {
+                let mut run = 1;
+                while at + run < ops.len() && run < 9 && matches!(ops[at + run], Op::Vbr(6)) {
+                    run += 1;
+                }
+                match bits.shortest_few(run as u64) {
+                    Some((word, len)) => {
+                        pen = put(bytes, pen, word, u64::from(len));
+                        bits = bits.after(u64::from(len));
+                        at += run - 1;
+                    }
+                    None => {
+                        let (value, after) = bits.number(6)?;
+                        pen = put_number(bytes, pen, value);
+                        bits = after;
+                    }
+                }
+            }
+            Op::Vbr(width) => {
+                let (value, after) = bits.number(u32::from(width))?;
+                pen = put_number(bytes, pen, value);
+                bits = after;
+            }
+            Op::Char6 => {
+                pen = put_number(bytes, pen, bit_fields::character(bits.front(6)));
+                bits = bits.after(6);
+            }
+            _ => return None,
+        }
+        at += 1;
+    }
+    Some((pen, bits))
+}
+
+/// What comes before a record's values.
+#[inline(always)]
+fn put_front(bytes: &mut [u8], pen: u64, code: u64, count: u64) -> u64 {
+    if code < 32 && count < 32 {
+        return put(bytes, pen, 3 + 4 * (code + 64 * count), 14);
+    }
+    far_front(bytes, pen, code, count)
+}
+
+#[inline(never)]
+fn far_front(bytes: &mut [u8], pen: u64, code: u64, count: u64) -> u64 {
+    let at = put(bytes, pen, 3, 2);
+    let at = put_number(bytes, at, code);
+    put_number(bytes, at, count)
+}
+
+/// Writes numbers of six bits that are read one by one.
+#[inline(never)]
+fn write_each<'a>(bytes: &mut [u8], at: u64, from: PlacedBits<'a>, count: u64) -> Option<(u64, PlacedBits<'a>)> {
+    let mut pen = at;
+    let mut bits = from;
+    let mut left = count;
+    while left > 0 {
+        if !bits.has(64) {
+            return None;
+        }
+        let (value, after) = bits.number(6)?;
+        pen = put_number(bytes, pen, value);
+        bits = after;
+        left -= 1;
+    }
+    Some((pen, bits))
+}
+
+/// Writes numbers of six bits: those that are in their shortest spelling are copied.
+#[inline(always)]
+fn write_sixes<'a>(bytes: &mut [u8], at: u64, from: PlacedBits<'a>, count: u64) -> Option<(u64, PlacedBits<'a>)> {
+    let mut pen = at;
+    let mut bits = from;
+    let mut left = count;
+    while left > 0 {
+        if !bits.has(136) {
+            return None;
+        }
+        let (word, some, len) = bits.some_sixes(left);
+        if some > 0 {
+            if len > 0 {
+                pen = put(bytes, pen, word, len);
+                bits = bits.after(len);
+            } else {
+                let (p, b) = write_each(bytes, pen, bits, some)?;
+                pen = p;
+                bits = b;
+            }
+            left -= some;
+            continue;
+        }
+        left -= 1;
+        if let Some(len) = bits.long_shortest() {
+            pen = put(bytes, pen, bits.front(48), 48);
+            pen = put(bytes, pen, bits.after(48).front(len as u32 - 48), len - 48);
+            bits = bits.after(len);
+        } else {
+            let (value, after) = bits.number(6)?;
+            pen = put_number(bytes, pen, value);
+            bits = after;
+        }
+    }
+    Some((pen, bits))
+}
+
+/// The pen after a plain record, its length and how many values it has; or a length of 0.
+#[inline(never)]
+fn write_plain(bytes: &mut [u8], at: u64, from: PlacedBits<'_>, room: u64) -> (u64, u64, u64) {
+    let Some((_, behind)) = from.number(6) else {
+        return (0, 0, 0);
+    };
+    let Some((count, _)) = behind.number(6) else {
+        return (0, 0, 0);
+    };
+    if count > room || count > 900 {
+        return (0, 0, 0);
+    }
+    let pen = put(bytes, at, 3, 2);
+    let Some((pen, bits)) = write_sixes(bytes, pen, from, count + 2) else {
+        return (0, 0, 0);
+    };
+    (pen, bits.position() - from.position(), count)
+}
+
+/// The same of an array's elements, whose number comes first.
+#[inline(never)]
+fn write_array<'a>(
+    bytes: &mut [u8],
+    at: u64,
+    fields: PlacedBits<'a>,
+    op: Op,
+    count: u64,
+) -> Option<(u64, PlacedBits<'a>)> {
+    let mut bits = fields;
+    let mut pen = at;
+    let mut left = count;
+    if let Op::Vbr(6) = op {
+        return write_sixes(bytes, at, fields, count);
+    }
+    while left > 0 {
+        match op {
+            Op::Fixed(width) => {
+                if !bits.has(64) {
+                    return None;
+                }
+                pen = put_number(bytes, pen, bits.front(u32::from(width)));
+                bits = bits.after(u64::from(width));
+            }
+            Op::Vbr(width) => {
+                if !bits.has(64) {
+                    return None;
+                }
+                let (value, after) = bits.number(u32::from(width))?;
+                pen = put_number(bytes, pen, value);
+                bits = after;
+            }
+            _ => {
+                if !bits.has(64) {
+                    return None;
+                }
+                pen = put_number(bytes, pen, bit_fields::character(bits.front(6)));
+                bits = bits.after(6);
+            }
+        }
+        left -= 1;
+    }
+    Some((pen, bits))
+}
+
+/// A record with an array.
+#[inline(never)]
+fn write_listed(
+    bytes: &mut [u8],
+    pen: u64,
+    fields: PlacedBits<'_>,
+    abbrev: &Abbrev,
+    room: u64,
+) -> (u64, u64, u64) {
+    let ops = abbrev.ops();
+    let Op::Literal(code) = ops[0] else {
+        return (0, 0, 0);
+    };
+    if abbrev.tail_len() != 2 {
+        return (0, 0, 0);
+    }
+    let singles = ops.len() - 3;
+    let mut walk = fields;
+    let mut at = 1;
+    while at <= singles {
+        match ops[at] {
+            Op::Literal(_) => {}
+            Op::Fixed(width) => walk = walk.after(u64::from(width)),
+            Op::Vbr(width) => {
+                let Some((_, after)) = walk.number(u32::from(width)) else {
+                    return (0, 0, 0);
+                };
+                walk = after;
+            }
+            _ => walk = walk.after(6),
+        }
+        at += 1;
+    }
+    let Some((count, elements)) = walk.number(6) else {
+        return (0, 0, 0);
+    };
+    let count = count + singles as u64;
+    if count > room || count > 1000 {
+        return (0, 0, 0);
+    }
+    let at = put_front(bytes, pen, code, count);
+    let Some((at, _)) = write_ops(bytes, at, fields, &ops[..ops.len() - 2]) else {
+        return (0, 0, 0);
+    };
+    let Some((at, after)) = write_array(bytes, at, elements, ops[ops.len() - 1], count - singles as u64) else {
+        return (0, 0, 0);
+    };
+    (at, after.position() - fields.position(), count)
+}
+
+impl<'a> FormBuilder<'a> {
+    #[inline(never)]
+    fn write_run(
+        &mut self,
+        bits: PlacedBits<'_>,
+        width: u32,
+        definitions: &bit_abbrev::InForce,
+        room: u64,
+    ) -> Result<PassedRun, AllocError> {
+        let mut bits = bits;
+        let mut room = room;
+        let mut is_over = false;
+        let all = definitions.all();
+        while bits.has(2240) {
+            if is_long(&self.text, self.limits) { break; }
+            self.text.reserve(100000)?;
+            let base = self.text.len();
+            let (bytes, first) = self.text.room();
+            let limit = (8 * self.limits.bytes() + 7 - (base - first)).min(8 * bytes.len() as u64 - 90000);
+            let mut pen = first;
+            let mut odd = false;
+            while bits.has(2240) {
+                if pen > limit {
+                    break;
+                }
+                let id = bits.fixed(width);
+                if id < 3 {
+                    is_over = true;
+                    odd = true;
+                    break;
+                }
+                let fields = bits.after(u64::from(width));
+                if id == 3 {
+                    if let Some((count, len)) = fields.plain_few(room) {
+                        pen = put(bytes, pen, 3 + 4 * fields.front(len as u32), len + 2);
+                        room -= count;
+                        bits = fields.after(len);
+                        continue;
+                    }
+                    let (p, len, count) = write_plain(bytes, pen, fields, room);
+                    if len == 0 {
+                        bytes[(pen >> 3) as usize] &= ((1 << (pen & 7)) - 1) as u8;
+                        odd = true;
+                        break;
+                    }
+                    pen = p;
+                    room -= count;
+                    bits = fields.after(len);
+                    continue;
+                }
+                let Some(abbrev) = all.get((id - 4) as usize) else {
+                    odd = true;
+                    break;
+                };
+                let ops = abbrev.ops();
+                if ops.len() > 24 || !abbrev.is_usable() {
+                    odd = true;
+                    break;
+                }
+                let Op::Literal(code) = ops[0] else {
+                    odd = true;
+                    break;
+                };
+                if abbrev.tail_len() == 0 {
+                    let count = ops.len() as u64 - 1;
+                    if count > room {
+                        odd = true;
+                        break;
+                    }
+                    let at = put_front(bytes, pen, code, count);
+                    let Some((p, after)) = write_ops(bytes, at, fields, ops) else {
+                        bytes[(pen >> 3) as usize] &= ((1 << (pen & 7)) - 1) as u8;
+                        odd = true;
+                        break;
+                    };
+                    pen = p;
+                    room -= count;
+                    bits = after;
+                    continue;
+                }
+                let (p, len, count) = write_listed(bytes, pen, fields, abbrev, room);
+                if len == 0 {
+                    bytes[(pen >> 3) as usize] &= ((1 << (pen & 7)) - 1) as u8;
+                    odd = true;
+                    break;
+                }
+                pen = p;
+                room -= count;
+                bits = fields.after(len);
+            }
+            self.text.advance(pen);
+            if odd { break; }
+        }
+        Ok(PassedRun { after: bits.position(), room, is_over })
+    }
+}
+
+#[inline(never)]
+fn copy_long(bytes: &mut [u8], at: u64, from: PlacedBits<'_>, len: u64) -> u64 {
+    let pen = put(bytes, at, 3, 2);
+    copy_bits(bytes, pen, from, len)
+}
+
+#[inline(always)]
+fn copy_bits(bytes: &mut [u8], at: u64, from: PlacedBits<'_>, len: u64) -> u64 {
+    let mut pen = at;
+    let mut bits = from;
+    let mut left = len;
+    while left > 56 {
+        pen = put(bytes, pen, bits.front(56), 56);
+        bits = bits.after(56);
+        left -= 56;
+    }
+    put(bytes, pen, bits.front(left as u32), left)
+}
+
 impl<'a> Gatherer for FormBuilder<'a> {
     ghost use Rattle.bit_norm.specs.Building.{IsFormOf};
 
@@ -394,6 +748,23 @@ impl<'a> Gatherer for FormBuilder<'a> {
         room: u64,
     ) -> Result<Option<PlainRecord>, AllocError> {
         self.add_plain(bits, room)
+    }
+
+    #[inline(always)]
+    fn counts(&self) -> bool {
+        !self.long && self.standing.is_whole()
+    }
+
+    #[inline(always)]
+    fn pass(
+        &mut self,
+        bits: PlacedBits<'_>,
+        width: u32,
+        _plans: &[bit_abbrev::Plan],
+        definitions: &bit_abbrev::InForce,
+        room: u64,
+    ) -> Result<PassedRun, AllocError> {
+        self.write_run(bits, width, definitions, room)
     }
 
     fn leave(&mut self, _after: u64) -> Result<(), AllocError> {

@@ -676,6 +676,7 @@ impl<'a> Gatherer for Comparer<'a> {
         bits: PlacedBits<'_>,
         width: u32,
         plans: &[Plan],
+        _definitions: &bit_abbrev::InForce,
         room: u64,
     ) -> Result<PassedRun, AllocError> {
         if self.passed_to == 0 {

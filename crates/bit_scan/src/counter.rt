@@ -170,6 +170,7 @@ impl Gatherer for Counter {
         bits: PlacedBits<'_>,
         width: u32,
         plans: &[Plan],
+        _definitions: &bit_abbrev::InForce,
         room: u64,
     ) -> Result<PassedRun, AllocError> {
         match self.open.last() {

@@ -3,7 +3,7 @@
 ghost use Rattle.std.specs.Prelude.{ℕ, ◌≡◌, ◌+◌, ◌-◌, ◌*◌, ◌^◌, ◌<◌, ◌≤◌, length, take, true, IfSome};
 ghost use Rattle.std.specs.Int.{w64, bit_not};
 ghost use Rattle.bit_grammar.specs.Bits.{bits_of};
-ghost use Rattle.bit_grammar.specs.Fields.{fixed, vbr};
+ghost use Rattle.bit_grammar.specs.Fields.{fixed};
 ghost use Rattle.bit_fields.specs.Buffered.{Reads, beyond};
 ghost use Rattle.bit_fields.specs.BufferedParts.{bits_of_parts, AreParts};
 ghost use Rattle.bit_fields.specs.Placed.{HasNumbers, Shows, bits_at};
@@ -15,7 +15,44 @@ use crate::six_bits::{TOPS, numbers_in};
 use crate::width::ChunkWidth;
 use crate::word::eight_of;
 
+static TOPS_OF: [u64; 33] = [0, 0, 48038396025285290, 82351536043346212, 38430716820228232, 18595508138820112, 9150170671482912, 36312488334073920, 36170086419038336, 9024825867763968, 563500246630912, 18023198899569664, 140771856484352, 2252074725150720, 36030996176445440, 17592722931712, 140739635871744, 1125908496842752, 9007233614610432, 72057731477143552, 549756338176, 2199024304128, 8796095119360, 35184376283136, 140737496743936, 562949970198528, 2251799847239680, 9007199321849856, 36028797153181696, 268435456, 536870912, 1073741824, 2147483648];
+
 impl<'a> PlacedBits<'a> {
+    /// A number in chunks of n bits, and the bits after it.
+    #[inline(always)]
+    pub fn number(self, n: u32) -> Option<(u64, PlacedBits<'a>)> {
+        let ends = self.ends();
+        let mask = (1 << (n - 1)) - 1;
+        if ends >> (n - 1) & 1 != 0 {
+            return Some((!ends & mask, self.after(u64::from(n))));
+        }
+        let len = u64::from((ends & TOPS_OF[n as usize]).trailing_zeros() + 1);
+        if len > 57 {
+            return self.far_number(n);
+        }
+        let mut value = !ends & mask;
+        let mut rest = !ends >> n;
+        let mut at = u64::from(n);
+        let mut place = n - 1;
+        while at < len {
+            value |= (rest & mask) << place;
+            rest >>= n;
+            at += u64::from(n);
+            place += n - 1;
+        }
+        Some((value, self.after(len)))
+    }
+
+    #[cold]
+    #[inline(never)]
+    fn far_number(self, n: u32) -> Option<(u64, PlacedBits<'a>)> {
+        let (value, len) = self.far(n);
+        if len == 0 {
+            return None;
+        }
+        Some((value, self.after(len)))
+    }
+
     /// Buffered bits from a position on, if they are not before the bytes.
     #[inline(always)]
     pub fn new(buffered_parts: BufferedParts<'a>, position: u64) -> Option<PlacedBits<'a>>
@@ -109,7 +146,7 @@ impl<'a> PlacedBits<'a> {
         requires there { 64 ≤ length (placed self).bits }
         ensures { Reads (fixed n) (placed self.entry) result (beyond (placed self.entry) n) }
     {
-        self.front(n)
+        !self.ends() & ((1 << n) - 1)
     }
 
     /// A number in chunks of n bits and its length, or a length of 0 if it is not there. Few numbers are long.
@@ -154,8 +191,7 @@ impl<'a> PlacedBits<'a> {
     #[inline(always)]
     pub(crate) fn long_six(self) -> Option<u64>
         ensures has { IfSome result (λ len. HasNumbers 6 1 (placed self.entry) len) }
-        ensures least { IfSome result (λ len. 60 ≤ len) }
-        ensures most { IfSome result (λ len. len ≤ 78) }
+        ensures some { IfSome result (λ len. 0 < len) }
     {
         if !self.has(128) || self.ends() & TOPS != 0 {
             return None;

@@ -13,6 +13,54 @@ use crate::six_bits::{TOPS, end_of, is_shortest, numbers_in};
 const MOST_PLAIN: u64 = 65536;
 
 impl<'a> PlacedBits<'a> {
+    #[inline(always)]
+    pub fn long_shortest(self) -> Option<u64> {
+        let len = self.long_six()?;
+        if self.after(len - 6).front(5) == 0 { return None; }
+        Some(len)
+    }
+
+    /// Numbers in the next nine chunks: their bits, how many they are, and the length, or 0 if one is longer than it need be.
+    #[inline(always)]
+    pub fn some_sixes(self, most: u64) -> (u64, u64, u64) {
+        let word = !self.ends();
+        let (some, len) = numbers_in(word, most.min(32));
+        if !is_shortest(word, len) { return (0, some, 0); }
+        (word & ((1 << len) - 1), some, u64::from(len))
+    }
+
+    /// The count and the length of a short plain record, or a length of 0.
+    #[inline(always)]
+    pub fn plain_few(self, room: u64) -> Option<(u64, u64)> {
+        let first = self.load();
+        let (_, behind) = first.short_six()?;
+        let (count, _) = behind.short_six()?;
+        if count > room { return None; }
+        if count > 7 { return None; }
+        let len = end_of(first.ends, count + 2)?;
+        if !is_shortest(!first.ends, len) { return None; }
+        Some((count, u64::from(len)))
+    }
+
+    #[inline(always)]
+    pub fn all_short(self, count: u64) -> Option<u64> {
+        match self.all_shortest(count) {
+            Ok(len) => Some(len),
+            Err(_) => None,
+        }
+    }
+
+    /// The length of this many numbers and their bits.
+    #[inline(always)]
+    pub fn shortest_few(self, count: u64) -> Option<(u64, u32)> {
+        let ends = self.ends();
+        let len = end_of(ends, count)?;
+        if !is_shortest(!ends, len) {
+            return None;
+        }
+        Some((!ends & ((1 << len) - 1), len))
+    }
+
     /// The length of a number in chunks of six bits, if it is there and in its shortest spelling. Few numbers are long.
     #[cold]
     #[inline(never)]
