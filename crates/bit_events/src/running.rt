@@ -137,7 +137,8 @@ fn gather_plain<G: Gatherer>(
     }
 }
 
-/// The same, if the next record is not abbreviated and the gatherer takes such records. The buffer has bits that these parts have too.
+/// The same, if the next record is not abbreviated and the gatherer takes such records. The buffered bits are the last
+/// ones of these parts.
 #[inline(always)]
 fn gather_as_bits<G: Gatherer>(
     parts: BufferedParts<'_>,
@@ -311,7 +312,7 @@ pub(crate) fn buffered_from<'a>(parts: BufferedParts<'a>, first: u64, loaded: u6
 }
 
 /// Gathers records of a block that is no BLOCKINFO block, as long as they are completely buffered, and returns the bit after the
-/// last one. Readers of all sources share it. The buffer has bits that these parts have too.
+/// last one. Readers of all sources share it. The buffered bits are the last ones of these parts.
 #[inline(never)]
 pub(crate) fn gather_records<G: Gatherer>(
     parts: BufferedParts<'_>,

@@ -216,7 +216,7 @@ impl<'a> PlacedBits<'a> {
         Some(at - self.at)
     }
 
-    /// The same of numbers in chunks of any width, if so many bits more are there.
+    /// The length of this many numbers in chunks of any width, if they are there and so many bits more.
     #[inline(never)]
     pub fn all_of(self, chunks: ChunkTops, count: u64, more: u64) -> Option<u64>
         ensures has { IfSome result (λ len. HasNumbers chunks.bits count (placed self.entry) len) }

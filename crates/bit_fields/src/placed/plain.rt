@@ -145,7 +145,8 @@ impl<'a> PlacedBits<'a> {
         if count < 8 {
             if let Some(len) = end_of(first.ends, count + 2) {
                 if !is_shortest(!first.ends, len) {
-                    return Err(count + 2);
+                    // all at once, in the time of one
+                    return Err(1);
                 }
                 return Ok((count, u64::from(len)));
             }
