@@ -4,6 +4,7 @@ pub mod Adding
 pub mod Taking
 pub mod Operands
 pub mod Shapes
+pub mod Layouts
 pub mod Records
 mod Several
 pub mod Covering

@@ -4,13 +4,16 @@ ghost use Rattle.std.specs.Prelude.{◌≡◌, ◌≤◌, ◌↔◌, true, lengt
 ghost use Rattle.bit_grammar.specs.Definition.{fits, place_after, kind_of, has_shape};
 ghost use Rattle.bit_grammar.specs.FormatDefinition.{Definable, Lawful};
 ghost use Rattle.bit_abbrev.specs.Operands.{HasTail};
+ghost use Rattle.bit_abbrev.specs.Layouts.{HasLayout};
 ghost use Rattle.bit_abbrev.specs.Breaks.{IsFirstBreak, LiteralFits, break_of};
 
+use crate::layout::{Layout, layout_of};
 use crate::tail::{Tail, tail_of};
 use crate::widths::{is_fixed_width, is_vbr_width};
 use bit_grammar::{Kind, Op, Place, Reason};
 use smallvec::SmallVec;
 use std::alloc::{AllocError, Global};
+use std::fmt;
 use std::marker::Model;
 use thiserror::Error;
 
@@ -32,7 +35,20 @@ pub struct BadAbbrev {
 pub struct Abbrev {
     ops: Ops,
     usable: bool,
+    tail: LaidOut,
+}
+
+/// What follows the operands that stand for one value each, and how a record's fields are laid out. Its text is the first alone.
+#[derive(Clone, Copy)]
+struct LaidOut {
     tail: Tail,
+    layout: Layout,
+}
+
+impl fmt::Debug for LaidOut {
+    fn fmt<W: fmt::Write>(&self, f: &mut fmt::Formatter<W>) -> fmt::Result {
+        self.tail.fmt(f)
+    }
 }
 
 impl Model for Abbrev {
@@ -41,6 +57,7 @@ impl Model for Abbrev {
     ghost use Rattle.bit_grammar.specs.Definition.{has_shape};
     ghost use Rattle.bit_grammar.specs.FormatDefinition.{Definable};
     ghost use Rattle.bit_abbrev.specs.Operands.{HasTail};
+    ghost use Rattle.bit_abbrev.specs.Layouts.{HasLayout};
 
     ghost Value = { List Op };
 
@@ -48,7 +65,8 @@ impl Model for Abbrev {
 
     ghost invariant = { λ definition. Definable definition.ops.items
         × (definition.usable ≡ has_shape definition.ops.items)
-        × (definition.usable ≡ true → HasTail definition.ops.items definition.tail) };
+        × (definition.usable ≡ true → HasTail definition.ops.items definition.tail.tail)
+        × HasLayout definition.ops.items definition.tail.layout };
 }
 
 /// Whether an operand of this kind may be at a place, with `after` operands after it.
@@ -145,10 +163,11 @@ impl Abbrev {
         match first_break(ops.as_slice()) {
             None => {
                 let tail = tail_of(ops.as_slice());
+                let layout = layout_of(ops.as_slice(), true, tail);
                 Ok(Abbrev {
                     ops,
                     usable: true,
-                    tail,
+                    tail: LaidOut { tail, layout },
                 })
             }
             Some((at, reason)) => Err(BadAbbrev { ops, at, reason }),
@@ -162,7 +181,12 @@ impl Abbrev {
     {
         let usable = has_shape(ops.as_slice());
         let tail = tail_of(ops.as_slice());
-        Abbrev { ops, usable, tail }
+        let layout = layout_of(ops.as_slice(), usable, tail);
+        Abbrev {
+            ops,
+            usable,
+            tail: LaidOut { tail, layout },
+        }
     }
 
     /// The operands.
@@ -189,13 +213,21 @@ impl Abbrev {
         self.ops.as_slice()
     }
 
+    /// How its fields are laid out.
+    #[inline(always)]
+    pub fn layout(&self) -> Layout
+        ensures { HasLayout self.now result }
+    {
+        self.tail.layout
+    }
+
     /// What follows the operands that stand for one value each.
     #[inline(always)]
     pub(crate) fn tail(&self) -> Tail
         requires { has_shape self.now ≡ true }
         ensures { HasTail self.now result }
     {
-        self.tail
+        self.tail.tail
     }
 
     /// A copy, with the same operands.

@@ -18,6 +18,7 @@ mod groups;
 mod in_force;
 mod info;
 mod laws;
+mod layout;
 mod plan;
 #[cfg(test)]
 mod plan_tests;
@@ -38,6 +39,7 @@ pub use groups::Planning;
 pub use in_force::{Definitions, InForce, Lookup, SharedInfo};
 pub use info::InfoTable;
 pub use laws::lawful_unbroken;
+pub use layout::Layout;
 pub use plan::{MARGIN, Passed, Plan, pass_plain};
 pub use record::{read_abbreviated, read_plain, read_record};
 pub use runs::Runs;

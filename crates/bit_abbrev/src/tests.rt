@@ -1,4 +1,4 @@
-use crate::{Abbrev, InForce, InfoTable, Op, SharedInfo};
+use crate::{Abbrev, InForce, InfoTable, Layout, Op, SharedInfo};
 use bit_grammar::Reason;
 use smallvec::SmallVec;
 use std::alloc::{AllocError, Global};
@@ -103,6 +103,48 @@ fn is_kept_and_copied(alloc: Global, ops: &[Op]) -> Result<bool, Fail> {
 fn lawful_lists_are_kept_and_copied(rt: HostRuntime) -> Result<(), Fail> {
     for ops in &LAWFUL {
         assert!(rt; is_kept_and_copied(rt.alloc(), ops)?, "{ops:?}");
+    }
+    Ok(())
+}
+
+/// Operands that each stand for one value.
+static MANY: [Op; 33] = [Op::Literal(1); 33];
+
+/// The layout of a definition and that of its copy, if they are the same.
+fn layout_of(alloc: Global, ops: &[Op]) -> Result<Option<Layout>, Fail> {
+    let made = abbrev(alloc, ops)?;
+    let layout = made.copy(alloc)?.layout();
+    Ok(if made.layout() == layout {
+        Some(layout)
+    } else {
+        None
+    })
+}
+
+#[test]
+fn lists_have_their_layout(rt: HostRuntime) -> Result<(), Fail> {
+    let layouts: [(&[Op], Layout); 11] = [
+        (&[Op::Literal(1)], Layout::Singles),
+        (
+            &[Op::Literal(1), Op::Vbr(6), Op::Fixed(1), Op::Char6],
+            Layout::Singles,
+        ),
+        (&MANY[..32], Layout::Singles),
+        (&MANY, Layout::Odd),
+        (&[Op::Fixed(1), Op::Vbr(6)], Layout::Coded),
+        (&[Op::Literal(1), Op::Array, Op::Vbr(6)], Layout::List),
+        (
+            &[Op::Literal(1), Op::Vbr(6), Op::Array, Op::Char6],
+            Layout::List,
+        ),
+        (&[Op::Fixed(1), Op::Array, Op::Vbr(6)], Layout::List),
+        (&[Op::Literal(1), Op::Vbr(0)], Layout::Odd),
+        (&[Op::Literal(1), Op::Array, Op::Vbr(0)], Layout::Odd),
+        (&[Op::Literal(1), Op::Blob], Layout::Odd),
+    ];
+    for (ops, layout) in &layouts {
+        let given = layout_of(rt.alloc(), ops)?;
+        assert!(rt; given == Some(*layout), "{ops:?}");
     }
     Ok(())
 }

@@ -4,8 +4,6 @@ use Rattle.std.proofs.lemmas.List.{append-nil, length-take-le, take-append-drop}
 use Rattle.bit_grammar.specs.Blocks.{Limits}
 use Rattle.bit_grammar.specs.Machine.{Event}
 use Rattle.bit_fields.specs.Buffered.{BufferedBits, beyond}
-use Rattle.bit_abbrev.specs.declared.plan.Plan.{Plan}
-use Rattle.bit_abbrev.specs.Plans.{ArePlans}
 use Rattle.bit_events.specs.declared.frame.Frame.{Frame}
 use Rattle.bit_events.specs.declared.passing.PassedRun.{PassedRun}
 use Rattle.bit_events.specs.Gathering.{left_open}
@@ -15,11 +13,11 @@ use Rattle.bit_events.proofs.Blocks.{passed_beyond}
 use Rattle.bit_events.proofs.Runs.{gathers_then, passed_both}
 use Rattle.bit_events.proofs.Stepping.{length-frames}
 
--- records that were passed over were gathered, in a block with ids of this width whose definitions have these plans
-pub run_passed : {G : Type 0} (gathered : G → List Event → G → Type 0) (limits : Limits) (f : Frame) (used : ℕ) (a : BufferedBits) (g : G) (width : ℕ) (plans : List Plan) (room : ℕ) (run : PassedRun) (h : G) → f.head.width ≡ width → f.info ≡ None → ArePlans f.definitions plans → limits.values - used ≡ room → PassesRun gathered width plans room a g run h
+-- records that were passed over were gathered, in a block with ids of this width
+pub run_passed : {G : Type 0} (gathered : G → List Event → G → Type 0) (limits : Limits) (f : Frame) (used : ℕ) (a : BufferedBits) (g : G) (width room : ℕ) (run : PassedRun) (h : G) → f.head.width ≡ width → f.info ≡ None → limits.values - used ≡ room → PassesRun gathered width f.definitions room a g run h
     → GathersRun gathered limits f used a g (used + (room - run.room)) run.after h
-run_passed gathered limits f used a g width plans room run h same plain are left p =
-    let q = p.1 f.definitions are in
+run_passed gathered limits f used a g width room run h same plain left p =
+    let q = p.1 in
     let to = q.1.passes limits f used same plain refl left in
     let so = to.2 in (
       to.0,

@@ -1,5 +1,5 @@
 -- Events of a slice that are passed over.
-use Rattle.std.proofs.Common.{◌≡◌, ℕ, zero, suc, ◌+◌, ◌-◌, ◌<◌, ◌≤◌, Bool, true, false, not, is_some, List, [], ◌∷◌, ◌++◌, length, map, drop, Option, Some, None, Ok, refl, sym, ap, subst, ◌∙◌, arith, append_assoc, length-append, vec_len}
+use Rattle.std.proofs.Common.{◌≡◌, ℕ, zero, suc, ◌+◌, ◌-◌, ◌<◌, ◌≤◌, Bool, true, false, not, is_some, List, [], ◌∷◌, ◌++◌, length, map, Option, Some, None, Ok, refl, sym, ap, subst, ◌∙◌, arith, append_assoc, length-append, vec_len}
 use Rattle.std.proofs.lemmas.List.{append-nil, append_cancel_left, drop-append-le}
 use Rattle.bit_grammar.specs.Blocks.{Limits}
 use Rattle.bit_grammar.specs.Machine as machine
@@ -8,12 +8,12 @@ use Rattle.bit_grammar.specs.Marks.{RecordMark}
 use Rattle.bit_grammar.specs.Steps.{open_after}
 use Rattle.bit_fields.specs.declared.head.Head.{Head}
 use Rattle.bit_fields.specs.Buffered.{BufferedBits, Sees, beyond, reader_further}
-use Rattle.bit_fields.specs.Reader.{Reader, TellsBytes}
+use Rattle.bit_fields.specs.Reader.{Reader}
 use Rattle.bit_fields.proofs.InflowLaws.{Spends-refl, Spends-trans}
 use Rattle.bit_events.specs.declared.frame.Frame.{Frame}
 use Rattle.bit_events.specs.declared.machine.Machine.{Machine}
 use Rattle.bit_events.specs.declared.machine.Step.{Step}
-use Rattle.bit_events.specs.Coming.{BreaksOff, Coming, EndsEvents, GivesEvent, Goes, PassesEvents, PassesNext, going, over}
+use Rattle.bit_events.specs.Coming.{Coming, EndsEvents, GivesEvent, Goes, PassesEvents, PassesNext}
 use Rattle.bit_events.specs.Events.{coming_of, stage_of}
 use Rattle.bit_events.specs.Folding.{GathersSome}
 use Rattle.bit_events.specs.FrameView.{frame_shown, frames_shown}

@@ -20,7 +20,7 @@ use Rattle.bit_events.specs.declared.passing.CountedRecord.{CountedRecord}
 use Rattle.bit_events.specs.declared.passing.PassedRun.{PassedRun}
 use Rattle.bit_events.specs.FrameView.{frame_shown, info_shown}
 use Rattle.bit_events.specs.MachineView.{record_of}
-use Rattle.bit_events.specs.Passing.{GathersRecords, PassesRecords, PassesRun, collected, mark_of}
+use Rattle.bit_events.specs.Passing.{GathersRecords, PassedTo, PassesRecords, PassesRun, collected, mark_of}
 use Rattle.bit_events.specs.Runs.{GathersTo}
 use Rattle.bit_events.proofs.Framing.{found_entry, plain_entry}
 use Rattle.bit_events.proofs.PlacedHeads.{field_below}
@@ -85,11 +85,6 @@ all_within (Some passed) width fields a is there h = omega (arith, h, ap (λ (x 
 pub none_gathered : {G : Type 0} (gathered : G → List Event → G → Type 0) (g : G) → GathersRecords gathered g [] g
 none_gathered gathered g = λ first done was some. subst (λ (events : List Event). gathered first events g) (sym (append-nil done)) was
 
--- These records come first, up to bits before which `left` values may still come.
-pub record PassedTo (width : ℕ) (definitions : List (List Op)) (room : ℕ) (a : BufferedBits) (records : List RecordMark) (left : ℕ) (b : BufferedBits) : Type 0 where
-  pub less : left ≤ room
-  pub passes : (limits : Limits) (f : Frame) (used : ℕ) → f.head.width ≡ width → f.info ≡ None → f.definitions ≡ definitions → limits.values - used ≡ room → GathersTo collected limits f used a [] (used + (room - left)) b (map notes records)
-
 pub none_passed : (width : ℕ) (definitions : List (List Op)) (room : ℕ) (a : BufferedBits) → PassedTo width definitions room a [] room a
 none_passed width definitions room a = record {
   less = omega arith;
@@ -137,7 +132,7 @@ one_passed width definitions room a records left b one list c so most id_seen se
     events = map-append notes records (mark_of one list ∷ []) ∙ ap (λ (e : Event). map notes records ++ e ∷ []) event_is
 
 -- what a counter counted was gathered
-pub counted_gathered : {C G : Type 0} (counted : C → List RecordMark → C → Type 0) (gathered : G → List Event → G → Type 0) (width : ℕ) (plans : List Plan) (room : ℕ) (a : BufferedBits) (old new : C) (g h : G) (result : Result PassedRun AllocError) → ((records : List RecordMark) → counted old records new → GathersRecords gathered g records h) → IfOk result (λ run. run.room ≤ room)
-    → IfOk result (λ run. (definitions : List (List Op)) → ArePlans definitions plans → (records : List RecordMark) × counted old records new × PassesRecords width definitions room a records run) → IfOk result (λ run. PassesRun gathered width plans room a g run h)
-counted_gathered counted gathered width plans room a old new g h (Ok run) gathers less passed = (less, λ definitions are. (let p = passed definitions are in (p.0, p.2, gathers p.0 p.1)))
-counted_gathered counted gathered width plans room a old new g h (Err e) gathers less passed = tt
+pub counted_gathered : {C G : Type 0} (counted : C → List RecordMark → C → Type 0) (gathered : G → List Event → G → Type 0) (width : ℕ) (plans : List Plan) (definitions : List (List Op)) (room : ℕ) (a : BufferedBits) (old new : C) (g h : G) (result : Result PassedRun AllocError) → ((records : List RecordMark) → counted old records new → GathersRecords gathered g records h) → ArePlans definitions plans → IfOk result (λ run. run.room ≤ room)
+    → IfOk result (λ run. (definitions : List (List Op)) → ArePlans definitions plans → (records : List RecordMark) × counted old records new × PassesRecords width definitions room a records run) → IfOk result (λ run. PassesRun gathered width definitions room a g run h)
+counted_gathered counted gathered width plans definitions room a old new g h (Ok run) gathers are less passed = (less, (let p = passed definitions are in (p.0, p.2, gathers p.0 p.1)))
+counted_gathered counted gathered width plans definitions room a old new g h (Err e) gathers are less passed = tt

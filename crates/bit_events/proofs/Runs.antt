@@ -1,33 +1,29 @@
 -- Buffered records, gathered one after another.
-use Rattle.std.proofs.Common.{◌≡◌, ℕ, ◌+◌, ◌-◌, ◌<◌, ◌≤◌, Bool, List, [], ◌∷◌, ◌++◌, length, drop, None, Some, Option, Ok, Err, refl, sym, ap, subst, ◌∙◌, arith, append_assoc, length-append, vec_len, get_or, suc}
+use Rattle.std.proofs.Common.{◌≡◌, ℕ, ◌+◌, ◌-◌, ◌<◌, ◌≤◌, Bool, List, [], ◌∷◌, ◌++◌, length, None, Some, Option, Ok, Err, refl, sym, ap, subst, ◌∙◌, arith, append_assoc, length-append, vec_len, get_or, suc}
 use Rattle.bit_grammar.specs.Grammar.{Grammar, gives, ◌>>=◌}
 use Rattle.bit_grammar.specs.Fields.{fixed}
-use Rattle.bit_grammar.specs.Record.{unabbreviated}
-use Rattle.bit_grammar.specs.declared.op.Op.{Op}
 use Rattle.bit_grammar.specs.Terms.{CodeAndValues}
 use Rattle.bit_grammar.specs.Blocks as blocks
 use Rattle.bit_grammar.specs.Terms as terms
 use Rattle.bit_grammar.specs.Blocks.{Limits, Handed, Scope, entry}
 use Rattle.bit_grammar.specs.Machine as machine
 use Rattle.bit_grammar.specs.Machine.{Event, scope_of, step, step_of}
-use Rattle.std.proofs.lemmas.List.{drop_at}
-use Rattle.bit_fields.specs.Buffered.{BufferedBits, Reads, Sees, beyond, reader_further, reader_at}
+use Rattle.bit_fields.specs.Buffered.{BufferedBits, Reads, Sees, reader_further, reader_at}
 use Rattle.bit_fields.specs.declared.fault.Fault.{Fault}
 use Rattle.bit_fields.specs.Reader.{Reader, Took, Why}
 use Rattle.bit_fields.proofs.Composing.{same_reading, fault_then}
 use Rattle.bit_fields.proofs.BitLaws.{drop_more}
-use Rattle.bit_fields.proofs.BufferedReads.{reads_forward, reads_passed, reads_took, took_reads, seen_took}
+use Rattle.bit_fields.proofs.BufferedReads.{reads_forward, reads_passed, took_reads, seen_took}
 use Rattle.bit_abbrev.specs.Values.{AddsWithin}
 use Rattle.bit_abbrev.proofs.Buffered.{took_at}
 use Rattle.bit_events.specs.declared.frame.Frame.{Frame}
-use Rattle.bit_events.specs.declared.gatherer.PlainRecord.{PlainRecord}
 use Rattle.bit_events.specs.declared.machine.Machine.{Machine}
 use Rattle.bit_events.specs.FrameView.{frame_shown, frames_shown, info_shown}
 use Rattle.bit_events.specs.Folding.{GathersSome}
 use Rattle.bit_events.specs.Gathering.{Gathers}
 use Rattle.bit_events.specs.MachineView.{handed_shown, machine_shown, record_of, record_rule, LeavesMachine}
 use Rattle.bit_events.specs.Next.{FindsEvent}
-use Rattle.bit_events.specs.Runs.{AddsBehind, ReadsTo, after_record, Passed, GathersPlain, GathersTo, StaysGathered, StopsRun}
+use Rattle.bit_events.specs.Runs.{AddsBehind, ReadsTo, after_record, Passed, GathersTo, StopsRun}
 use Rattle.bit_events.proofs.Advancing.{finds_event}
 use Rattle.bit_events.proofs.Folds.{first_after, first_bits, first_event, in_block, none_yet, one_event, some_then}
 use Rattle.bit_events.proofs.Framing.{none_described}
@@ -73,18 +69,6 @@ record_seen limits f outer handed id code list a b c none most seen t =
     new : machine.Machine
     new = after_record f outer handed list
 
--- a record that is not abbreviated, after its id
-plain_took : (room first : ℕ) (definitions : List (List Op)) (value : CodeAndValues) (a b : BufferedBits) → Reads (unabbreviated room) a value b → Took (entry room first 3 definitions) (reader_at a) value (reader_at b)
-unfolding entry
-plain_took room first definitions value a b seen = reads_took (entry room first 3 definitions) a value b seen (reads_forward (unabbreviated room) a value b seen)
-
--- the same with its id
-pub plain_seen : (limits : Limits) (f : machine.Frame) (outer : List machine.Frame) (handed : Handed) (id room code : ℕ) (list : List ℕ) (a b c : BufferedBits) → f.info ≡ None → id ≡ 3 → limits.values - handed.used ≡ room → Reads (fixed f.head.width) a id b → Reads (unabbreviated room) b (record { code = code; values = list }) c
-    → Reads (step_of limits (f ∷ outer) handed) a (record_of id list a.position (code, c.position), after_record f outer handed list) c
-plain_seen limits f outer handed id room code list a b c none is left seen reads =
-    record_seen limits f outer handed id code list a b c none (omega (arith, is)) seen
-    (rw (left, is) (plain_took room a.position f.definitions (record { code = code; values = list }) b c reads))
-
 -- a record of the innermost block, as the machine holds it
 pub held_seen : (limit : ℕ) (m : Machine) (k : ℕ) (f : Frame) (shown : machine.Frame) (outer : List machine.Frame) (room first id code : ℕ) (list : List ℕ) (after used : ℕ) (a : BufferedBits) → length m.frames.items ≡ suc k → f ≡ get_or m.frames.items k f → frames_shown m.frames.items ≡ shown ∷ outer → f.info ≡ None → limit - m.used ≡ room → used ≡ m.used + length list → (reads : ReadsTo f.definitions room id first a code list after)
     → Reads (record_rule limit shown outer first id (handed_shown m)) a (record_of id list first (code, after), machine_shown (record m { used = used })) reads.0
@@ -127,7 +111,7 @@ gathers_none gathered limits f used a g = record {
 }
 
 -- a step that was seen, after bits that were skipped
-pub passed_more : {A : Type 0} (rule : Grammar A) (a b : BufferedBits) (value : A) (c : BufferedBits) → Passed a b → Reads rule b value c → Passed a c
+passed_more : {A : Type 0} (rule : Grammar A) (a b : BufferedBits) (value : A) (c : BufferedBits) → Passed a b → Reads rule b value c → Passed a c
 passed_more rule a b value c p seen = (let q = reads_passed rule b value c seen in passed_both a b c p (q.0, q.1, q.2))
 
 -- a step of the innermost block, by a reader before these bits
@@ -185,34 +169,6 @@ gathers_more {G = G} gathered limits f used a g now_used b h id code list c k mo
     forward : b.position ≤ c.position
     forward = reads_forward rule b value c seen
 
--- one more, straight from the bits after its id
-pub plain_more : {G : Type 0} (gathered : G → List Event → G → Type 0) (limits : Limits) (f : Frame) (used : ℕ) (a : BufferedBits) (g : G) (now_used : ℕ) (b : BufferedBits) (h : G) (room : ℕ) (c : BufferedBits) (taken : PlainRecord) (k : G) → (frame_shown f).info ≡ None → GathersTo gathered limits f used a g now_used b h → room ≡ limits.values - now_used → Reads (fixed f.head.width) b 3 c → GathersPlain gathered room c h (Some taken) k
-    → GathersTo gathered limits f used a g (now_used + taken.count) (beyond c taken.len) k
-plain_more gathered limits f used a g now_used b h room c taken k none so left seen one =
-    gathers_more gathered limits f used a g now_used b h 3 one.0 one.1 (beyond c taken.len) k (now_used + taken.count) so (ap (λ (n : ℕ). now_used + n) (sym one.2))
-    (λ outer handed same. plain_seen limits (frame_shown f) outer handed 3 room one.0 one.1 b c (beyond c taken.len) none refl (ap (λ (u : ℕ). limits.values - u) same ∙ sym left) seen one.5) (one.6 b.position)
-
--- by a gatherer that changed without gathering anything
-pub gathers_still : {G : Type 0} (gathered : G → List Event → G → Type 0) (limits : Limits) (f : Frame) (used : ℕ) (a : BufferedBits) (g : G) (now_used : ℕ) (b : BufferedBits) (h k : G) → GathersTo gathered limits f used a g now_used b h → StaysGathered gathered h k → GathersTo gathered limits f used a g now_used b k
-gathers_still gathered limits f used a g now_used b h k so stays = record {
-  passed = so.passed;
-  gathers = λ m outer r split same sees.
-      let before = so.gathers m outer r split same sees in
-      let some = before.0 in (
-        record {
-          events = some.events;
-          live = some.live;
-          pays = some.pays;
-          forward = some.forward;
-          aligned = some.aligned;
-          told = some.told;
-          leads = some.leads;
-          gathers = λ first done was levels. (let all = some.gathers first done was levels in (stays first (done ++ some.events) all.0, all.1));
-        },
-        before.1,
-      );
-}
-
 -- a run after another one
 pub gathers_then : {G : Type 0} (gathered : G → List Event → G → Type 0) (limits : Limits) (f : Frame) (used : ℕ) (a : BufferedBits) (g : G) (now_used : ℕ) (b : BufferedBits) (h : G) (more_used : ℕ) (c : BufferedBits) (k : G) → GathersTo gathered limits f used a g now_used b h → GathersTo gathered limits f now_used b h more_used c k → GathersTo gathered limits f used a g more_used c k
 gathers_then gathered limits f used a g now_used b h more_used c k one two = record {
@@ -227,16 +183,6 @@ gathers_then gathered limits f used a g now_used b h more_used c k one two = rec
         subst (λ (t : Reader). Sees t c) e later.1,
       );
 }
-
--- the later bits, reached from bits that were read on the way
-pub reached : {A : Type 0} (rule : Grammar A) (a : BufferedBits) (value : A) (b c : BufferedBits) → Reads rule a value b → Passed a c → b.position ≤ c.position → (c.position - b.position ≤ length b.bits) × (c ≡ beyond b (c.position - b.position))
-reached rule a value b c seen p forward =
-    let q = reads_passed rule a value b seen in
-    let n : ℕ = c.position - b.position in
-    let all : length q.0 + n ≡ length p.0 = omega (arith, q.2, p.2, forward) in
-    let left : drop n b.bits ≡ c.bits = ap (drop n) (sym (ap (drop (length q.0)) q.1 ∙ drop_at q.0 b.bits (length q.0) refl)) ∙ drop_more (length q.0) n a.bits ∙ ap (λ (k : ℕ). drop k a.bits) all ∙ ap (drop (length p.0)) p.1 ∙ drop_at p.0 c.bits (length p.0) refl in
-    let place : b.position + n ≡ c.position = omega (arith, forward) in
-    (omega (arith, all, ap length q.1, ap length p.1, length-append q.0 b.bits, length-append p.0 c.bits), sym (rw (place, left) refl))
 
 -- ---- where it stopped
 

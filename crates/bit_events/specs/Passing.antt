@@ -1,17 +1,15 @@
--- Records that are passed over, since only the number of their values is wanted.
+-- Records that are passed over: they are gathered without their values being read into a value sink.
 use Rattle.std.specs.Prelude.{◌≡◌, ℕ, ◌+◌, ◌-◌, ◌<◌, ◌≤◌, List, [], ◌∷◌, ◌++◌, None, map}
 use Rattle.bit_grammar.specs.declared.op.Op.{Op}
 use Rattle.bit_grammar.specs.Blocks.{Limits}
 use Rattle.bit_grammar.specs.Machine.{Event, notes}
 use Rattle.bit_grammar.specs.Marks.{RecordMark}
 use Rattle.bit_fields.specs.Buffered.{BufferedBits}
-use Rattle.bit_abbrev.specs.declared.plan.Plan.{Plan}
-use Rattle.bit_abbrev.specs.Plans.{ArePlans}
 use Rattle.bit_events.specs.declared.frame.Frame.{Frame}
 use Rattle.bit_events.specs.declared.passing.CountedRecord.{CountedRecord}
 use Rattle.bit_events.specs.declared.passing.PassedRun.{PassedRun}
 use Rattle.bit_events.specs.Gathering.{left_open}
-use Rattle.bit_events.specs.Runs.{GathersRun}
+use Rattle.bit_events.specs.Runs.{GathersRun, GathersTo}
 
 -- the record that was counted, with these values
 abbrev pub mark_of : CountedRecord → List ℕ → RecordMark
@@ -36,15 +34,23 @@ pub record PassesRecords (width : ℕ) (definitions : List (List Op)) (room : �
       → GathersRun collected limits f used a [] (used + (room - run.room)) run.after
       (map notes records)
 
+-- These records come first in the buffered bits, up to bits before which `left` values may still come.
+pub record PassedTo (width : ℕ) (definitions : List (List Op)) (room : ℕ) (a : BufferedBits)
+    (records : List RecordMark) (left : ℕ) (b : BufferedBits) : Type 0 where
+  pub less : left ≤ room
+  pub passes : (limits : Limits) (f : Frame) (used : ℕ) → f.head.width ≡ width → f.info ≡ None
+      → f.definitions ≡ definitions → limits.values - used ≡ room
+      → GathersTo collected limits f used a [] (used + (room - left)) b (map notes records)
+
 -- After gathering some events that leave a block open, these records were gathered.
 abbrev pub GathersRecords : {G : Type 0} → (G → List Event → G → Type 0) → G → List RecordMark → G → Type 0
 GathersRecords {G} gathered old records new = (first : G) (done : List Event) → gathered first done old
     → 0 < left_open done → gathered first (done ++ map notes records) new
 
--- No more values may come than before. For any definitions in force, the first of which have these plans: the records that come
--- first in the buffered bits were gathered.
-abbrev pub PassesRun : {G : Type 0} → (G → List Event → G → Type 0) → (width : ℕ) → List Plan
-    → (room : ℕ) → BufferedBits → G → PassedRun → G → Type 0
-PassesRun gathered width plans room a old run new = (run.room ≤ room)
-    × ((definitions : List (List Op)) → ArePlans definitions plans → (records : List RecordMark)
-    × PassesRecords width definitions room a records run × GathersRecords gathered old records new)
+-- No more values may come than before. In a block with these definitions in force, the records that come first in the buffered bits
+-- were gathered.
+abbrev pub PassesRun : {G : Type 0} → (G → List Event → G → Type 0) → (width : ℕ)
+    → (definitions : List (List Op)) → (room : ℕ) → BufferedBits → G → PassedRun → G → Type 0
+PassesRun gathered width definitions room a old run new = (run.room ≤ room)
+    × ((records : List RecordMark) × PassesRecords width definitions room a records run
+    × GathersRecords gathered old records new)

@@ -2,20 +2,16 @@
 use Rattle.std.specs.Prelude.{◌≡◌, ℕ, ◌+◌, ◌-◌, ◌≤◌, List, ◌∷◌, ◌++◌, Bool, Option, Some, None, length, vec_len}
 use Rattle.bit_grammar.specs.Grammar.{Grammar}
 use Rattle.bit_grammar.specs.declared.op.Op.{Op}
-use Rattle.bit_grammar.specs.Fields.{fixed}
-use Rattle.bit_grammar.specs.Record.{unabbreviated}
 use Rattle.bit_grammar.specs.Blocks.{Limits, Handed, entry}
 use Rattle.bit_grammar.specs.Machine as machine
 use Rattle.bit_grammar.specs.Machine.{Event, step_of}
-use Rattle.bit_fields.specs.Buffered.{BufferedBits, Reads, Sees, beyond, reader_further, reader_at}
+use Rattle.bit_fields.specs.Buffered.{BufferedBits, Reads, Sees, reader_further, reader_at}
 use Rattle.bit_fields.specs.Reader.{Reader, TellsBytes, Took}
 use Rattle.bit_events.specs.declared.frame.Frame.{Frame}
-use Rattle.bit_events.specs.declared.gatherer.PlainRecord.{PlainRecord}
 use Rattle.bit_events.specs.declared.machine.Machine.{Machine}
 use Rattle.bit_events.specs.declared.machine.Step.{Step}
 use Rattle.bit_events.specs.FrameView.{frame_shown, frames_shown}
 use Rattle.bit_events.specs.Folding.{GathersFirst, GathersSome}
-use Rattle.bit_events.specs.Gathering.{Gathers}
 use Rattle.bit_events.specs.Next.{left_to_tell}
 use Rattle.bit_events.specs.MachineView.{bit_after, machine_shown, record_of, step_shown, LeavesMachine}
 
@@ -47,21 +43,6 @@ SeesRecord f room a read list b = (limits : Limits) (outer : List machine.Frame)
           handed list,
     ) b
 
--- whatever events were gathered still are
-abbrev pub StaysGathered : {G : Type 0} → (G → List Event → G → Type 0) → G → G → Type 0
-StaysGathered {G} gathered g h = (first : G) (events : List Event) → gathered first events g
-    → gathered first events h
-
--- A record that is not abbreviated was gathered from the bits after its id, wherever the id began, with at most `room` values; or
--- nothing was gathered.
-abbrev pub GathersPlain : {G : Type 0} → (G → List Event → G → Type 0) → (room : ℕ)
-    → BufferedBits → G → Option PlainRecord → G → Type 0
-GathersPlain gathered room a g None h = StaysGathered gathered g h
-GathersPlain gathered room a g (Some taken) h = (code : ℕ) × (list : List ℕ)
-    × (length list ≡ taken.count) × (taken.count ≤ room) × (taken.len + 64 ≤ length a.bits)
-    × Reads (unabbreviated room) a (record { code = code; values = list }) (beyond a taken.len)
-    × ((first : ℕ) → Gathers gathered g (record_of 3 list first (code, a.position + taken.len)) h)
-
 -- the later buffered bits are a suffix of the earlier ones
 abbrev pub Passed : BufferedBits → BufferedBits → Type 0
 Passed a b = (bits : List Bool) × (a.bits ≡ bits ++ b.bits)
@@ -84,15 +65,6 @@ abbrev pub GathersRun : {G : Type 0} → (G → List Event → G → Type 0) →
 GathersRun gathered limits f used a g now_used after h = (b : BufferedBits) × (b.position ≡ after)
     × GathersTo gathered limits f used a g now_used b h
 
--- the same from the bits after an id, which began at `first` and is 3, beyond them; or nothing was gathered
-abbrev pub GathersFrom : {G : Type 0} → (G → List Event → G → Type 0) → Limits → Frame → (used id first : ℕ)
-    → BufferedBits → G → (now_used : ℕ) → Option ℕ → G → Type 0
-GathersFrom gathered limits f used id first b g now_used None h = (now_used ≡ used)
-    × StaysGathered gathered g h
-GathersFrom gathered limits f used id first b g now_used (Some after) h = (b.position ≤ after)
-    × ((a : BufferedBits) → a.position ≡ first → Reads (fixed f.head.width) a id b
-    → GathersRun gathered limits f used a g now_used after h)
-
 -- For each reader before `a`: the first of its remaining events were gathered, and there it stopped.
 abbrev pub StopsOn : {G : Type 0} → (G → List Event → G → Type 0)
     → (G → Option Event → G → Type 0) → Limits → Machine → BufferedBits → G → G → Type 0
@@ -105,13 +77,6 @@ abbrev pub StopsRun : {G : Type 0} → (G → List Event → G → Type 0)
 StopsRun gathered fails limits f used a g h = (m : Machine) (outer : List machine.Frame)
     → frames_shown m.frames.items ≡ frame_shown f ∷ outer → m.used ≡ used
     → StopsOn gathered fails limits m a g h
-
--- the same from the bits after an id, which began at `first`
-abbrev pub StopsFrom : {G : Type 0} → (G → List Event → G → Type 0)
-    → (G → Option Event → G → Type 0) → Limits → Frame → (used id first : ℕ) → BufferedBits
-    → G → G → Type 0
-StopsFrom gathered fails limits f used id first b g h = (a : BufferedBits) → a.position ≡ first
-    → Reads (fixed f.head.width) a id b → StopsRun gathered fails limits f used a g h
 
 -- ---- blocks
 

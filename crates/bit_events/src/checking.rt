@@ -6,7 +6,7 @@ ghost use Rattle.bit_events.specs.Reading.{ReadsWhole};
 use crate::folding::fold;
 use crate::gatherer::Gatherer;
 use crate::passing::{PassedRun, Uncounted, pass_records};
-use bit_abbrev::{Abbrev, Plan};
+use bit_abbrev::{Abbrev, InForce, Plan};
 use bit_fields::{Fault, KeptSource, Limits, PlacedBits, Source, ValueCount};
 use std::alloc::{AllocError, Global};
 
@@ -47,7 +47,7 @@ impl Gatherer for Nothing {
     }
 
     #[inline(always)]
-    fn counts(&self) -> bool {
+    fn passes(&self) -> bool {
         true
     }
 
@@ -57,6 +57,7 @@ impl Gatherer for Nothing {
         bits: PlacedBits<'_>,
         width: u32,
         plans: &[Plan],
+        _definitions: &InForce,
         room: u64,
     ) -> Result<PassedRun, AllocError> {
         pass_records(bits, width, plans, room, &mut Uncounted)

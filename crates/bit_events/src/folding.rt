@@ -284,7 +284,7 @@ pub fn fold<S: Source, G: Gatherer + Drop>(
     };
     let mut reader = reader;
     let mut gatherer = gatherer;
-    let planning = if gatherer.counts() {
+    let planning = if gatherer.passes() && gatherer.by_plans() {
         Planning::First
     } else {
         Planning::Never

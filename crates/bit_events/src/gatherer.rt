@@ -1,23 +1,15 @@
 ghost use Rattle.std.specs.Prelude.{◌≤◌, ℕ, List, [], Some, None, OnOk, OnErr, IfOk};
 ghost use Rattle.bit_grammar.specs.Machine.{enters, defines, notes, leaves};
 ghost use Rattle.bit_fields.specs.PlacedView.{placed};
+ghost use Rattle.bit_abbrev.specs.Plans.{ArePlans};
 ghost use Rattle.bit_events.specs.Gathering.{Gathers};
 ghost use Rattle.bit_events.specs.MachineView.{TookSome};
 ghost use Rattle.bit_events.specs.Passing.{PassesRun};
-ghost use Rattle.bit_events.specs.Runs.{GathersPlain};
 
 use crate::passing::PassedRun;
-use bit_abbrev::{Abbrev, Plan};
+use bit_abbrev::{Abbrev, Definitions, InForce, Plan};
 use bit_fields::{PlacedBits, ValueTaker};
 use std::alloc::AllocError;
-
-/// A record that is not abbreviated, and was taken from buffered bits: how many values it has, and its length in bits, without its
-/// abbreviation id.
-#[derive(Clone, Copy)]
-pub struct PlainRecord {
-    pub count: u64,
-    pub len: u64,
-}
 
 /// Gathers the events of a stream, one after another.
 pub trait Gatherer {
@@ -30,7 +22,7 @@ pub trait Gatherer {
     // Whether gathering these events, in order, turns the one into the other.
     ghost gathered: { Self → List Event → Self → Type 0 };
 
-    // What a call that fails does: at an event, or `plain` at bits.
+    // What a call that fails does: at an event, or `pass` at bits.
     ghost fails: { Self → Option Event → Self → Type 0 } = { λ _ _ _. Unit {0} };
 
     /// An empty value sink for the records.
@@ -82,45 +74,40 @@ pub trait Gatherer {
         ensures took { TookSome Self.Values.took values.old
             → TookSome Self.Values.took values.new };
 
-    /// Whether `plain` may take the next record, which is not abbreviated. If not, `plain` is not called.
+    /// Whether `pass` is called: it may gather records without their values being read.
     #[inline(always)]
-    fn takes_plain(&self) -> bool {
+    fn passes(&self) -> bool {
         false
     }
 
-    /// Takes the next record, which is not abbreviated, straight from the buffered bits after its abbreviation id, if it has at most
-    /// `room` values, and 64 more bits are there. `None` takes nothing: the record is then read into a value sink.
+    /// Whether `pass` goes by plans, so that they are made.
     #[inline(always)]
-    fn plain(
-        &mut self,
-        _bits: PlacedBits<'_>,
-        _room: u64,
-    ) -> Result<Option<PlainRecord>, AllocError>
-        ensures gathers { IfOk result (λ taken. GathersPlain gathered _room (placed _bits.entry)
-            self.old taken self.new) }
-        ensures fails { OnErr result (fails self.old None self.new) }
+    fn by_plans(&self) -> bool {
+        true
+    }
+
+    /// Whether `pass` may gather a record with this id. These definitions are in force, and the first `planned` of them have plans.
+    #[inline(always)]
+    fn may_pass(&self, id: u32, _definitions: &Definitions<'_>, planned: usize) -> bool
+        requires { 3 ≤ id }
     {
-        Ok(None)
+        (id - 3) as usize <= planned
     }
 
-    /// Whether it needs no values of records, only how many they are. `pass` is then called.
-    #[inline(always)]
-    fn counts(&self) -> bool {
-        false
-    }
-
-    /// Gathers records of the innermost block of which only the number of values is wanted, and which come first in these bits: as many
-    /// as it likes. Their ids have this width, and the first definitions in force have these plans. They have at most `room` values.
+    /// Gathers records of the innermost block which come first in these bits: as many as it likes. Their ids have this width, and the
+    /// first definitions in force have these plans. They have at most `room` values.
     #[inline(always)]
     fn pass(
         &mut self,
         bits: PlacedBits<'_>,
         width: u32,
         _plans: &[Plan],
+        _definitions: &InForce,
         room: u64,
     ) -> Result<PassedRun, AllocError>
-        requires { width ≤ 32 }
-        ensures gathers { IfOk result (λ run. PassesRun gathered width _plans.now room
+        requires width { width ≤ 32 }
+        requires plans { ArePlans _definitions.now _plans.now }
+        ensures gathers { IfOk result (λ run. PassesRun gathered width _definitions.now room
             (placed bits.entry) self.old run self.new) }
         ensures fails { OnErr result (fails self.old None self.new) }
     {

@@ -46,7 +46,7 @@ pub use event::{Event, RecordHead};
 pub use events::Events;
 pub use finder::{EventFinder, PackedEvent, PackedEvents};
 pub use folding::{Folded, fold};
-pub use gatherer::{Gatherer, PlainRecord};
+pub use gatherer::Gatherer;
 pub use open_blocks::OpenBlocks;
 pub use passing::{CountedRecord, PassedRun, RunCounter, Uncounted, pass_records};
 pub use slice_events::SliceEvents;

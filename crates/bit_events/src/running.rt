@@ -13,7 +13,7 @@ ghost use Rattle.bit_abbrev.specs.Plans.{ArePlans};
 ghost use Rattle.bit_abbrev.specs.Values.{Gains, Has, Keeps};
 ghost use Rattle.bit_events.specs.FrameView.{frame_shown};
 ghost use Rattle.bit_events.specs.MachineView.{record_of, TookSome};
-ghost use Rattle.bit_events.specs.Runs.{AddsBehind, GathersFrom, GathersRun, ReadsTo, SeesRecord, StopsFrom, StopsRun};
+ghost use Rattle.bit_events.specs.Runs.{AddsBehind, GathersRun, ReadsTo, SeesRecord, StopsRun};
 
 use crate::entry::read_entry;
 use crate::frame::Frame;
@@ -95,82 +95,6 @@ pub(crate) fn buffered_item<U, D: Lookup, V: ValueTaker>(
     }
 }
 
-/// Gathers records that are not abbreviated straight from the buffered bits, as long as the gatherer takes them, and returns the bit
-/// after the last one, if there is one. The first begins at `first`; the bits are those after its abbreviation id. It is a loop of its
-/// own: what it needs would not fit into the loop over all records.
-#[inline(never)]
-fn gather_plain<G: Gatherer>(
-    bits: PlacedBits<'_>,
-    first: u64,
-    frame: &Frame,
-    limits: &Limits,
-    used: &mut u64,
-    gatherer: &mut G,
-) -> Result<Option<u64>, AllocError>
-    requires plain { frame.now.info ≡ None }
-    ensures gathers { IfOk result (λ after. GathersFrom G.gathered limits.now frame.now used.old 3
-        first (placed bits.entry) gatherer.old used.new after gatherer.new) }
-    ensures stops { OnErr result (StopsFrom G.gathered G.fails limits.now frame.now used.old 3 first
-        (placed bits.entry) gatherer.old gatherer.new) }
-{
-    let mut bits = bits;
-    let mut first = first;
-    let mut some = false;
-    let mut spent = *used;
-    let mut room = limits.values().saturating_sub(spent);
-    let width = u32::from(frame.head.width);
-    loop {
-        let Some(taken) = gatherer.plain(bits, room)? else {
-            *used = spent;
-            return Ok(if some { Some(first) } else { None });
-        };
-        some = true;
-        spent += taken.count;
-        room = room.saturating_sub(taken.count);
-        let after = bits.after(taken.len);
-        first = after.position();
-        if after.fixed(width) != 3 {
-            *used = spent;
-            return Ok(Some(first));
-        }
-        bits = after.after(u64::from(width));
-    }
-}
-
-/// The same, if the next record is not abbreviated and the gatherer takes such records. The buffered bits are the last
-/// ones of these parts.
-#[inline(always)]
-fn gather_as_bits<G: Gatherer>(
-    parts: BufferedParts<'_>,
-    buffered: &Buffered<'_>,
-    id: u32,
-    first: u64,
-    frame: &Frame,
-    limits: &Limits,
-    used: &mut u64,
-    gatherer: &mut G,
-) -> Result<Option<u64>, AllocError>
-    requires lawful { AreParts parts }
-    requires least { (bits_of_parts parts).position ≤ buffered.now.position }
-    requires there { buffered.now.position - (bits_of_parts parts).position
-        ≤ length (bits_of_parts parts).bits }
-    requires here { buffered.now ≡ beyond (bits_of_parts parts)
-        (buffered.now.position - (bits_of_parts parts).position) }
-    requires plain { frame.now.info ≡ None }
-    ensures gathers { IfOk result (λ after. GathersFrom G.gathered limits.now frame.now used.old id
-        first buffered.now gatherer.old used.new after gatherer.new) }
-    ensures stops { OnErr result (StopsFrom G.gathered G.fails limits.now frame.now used.old id first
-        buffered.now gatherer.old gatherer.new) }
-{
-    if id != 3 || !gatherer.takes_plain() {
-        return Ok(None);
-    }
-    let Some(bits) = PlacedBits::new(parts, buffered.position()) else {
-        return Ok(None);
-    };
-    gather_plain(bits, first, frame, limits, used, gatherer)
-}
-
 /// Records that were gathered: the bit after the last one, and whether no record comes there that is buffered.
 #[derive(Clone, Copy)]
 struct GatheredRun {
@@ -214,7 +138,7 @@ fn gather_odd<G: Gatherer>(
                 is_over: true,
             });
         };
-        if passes && (id - 3) as usize <= planned {
+        if passes && gatherer.may_pass(id, &definitions, planned) {
             *used = spent;
             return Ok(GatheredRun {
                 after: first,
@@ -288,7 +212,13 @@ fn pass_placed<G: Gatherer>(
         });
     };
     let room = limits.values().saturating_sub(*used);
-    let run = gatherer.pass(bits, u32::from(frame.head.width), plans, room)?;
+    let run = gatherer.pass(
+        bits,
+        u32::from(frame.head.width),
+        plans,
+        &frame.definitions,
+        room,
+    )?;
     *used += room - run.room;
     Ok(GatheredRun {
         after: run.after,
@@ -312,10 +242,9 @@ pub(crate) fn buffered_from<'a>(parts: BufferedParts<'a>, first: u64, loaded: u6
 }
 
 /// Gathers records of a block that is no BLOCKINFO block, as long as they are completely buffered, and returns the bit after the
-/// last one. Readers of all sources share it. The buffered bits are the last ones of these parts.
+/// last one. Readers of all sources share it.
 #[inline(never)]
 pub(crate) fn gather_records<G: Gatherer>(
-    parts: BufferedParts<'_>,
     buffered: Buffered<'_>,
     frame: &Frame,
     limits: &Limits,
@@ -323,12 +252,6 @@ pub(crate) fn gather_records<G: Gatherer>(
     gatherer: &mut G,
     values: &mut G::Values,
 ) -> Result<u64, AllocError>
-    requires lawful { AreParts parts }
-    requires least { (bits_of_parts parts).position ≤ buffered.position }
-    requires there { buffered.position - (bits_of_parts parts).position
-        ≤ length (bits_of_parts parts).bits }
-    requires here { buffered ≡ beyond (bits_of_parts parts)
-        (buffered.position - (bits_of_parts parts).position) }
     requires took { TookSome G.Values.took values.old }
     requires plain { frame.now.info ≡ None }
     ensures took { TookSome G.Values.took values.new }
@@ -348,14 +271,6 @@ pub(crate) fn gather_records<G: Gatherer>(
             *used = spent;
             return Ok(first);
         };
-        if let Some(after) = gather_as_bits(
-            parts, &buffered, id, first, frame, limits, &mut spent, gatherer,
-        )? {
-            buffered.skip(after - buffered.position());
-            room = limits.values().saturating_sub(spent);
-            first = after;
-            continue;
-        }
         let Ok(code) = read_entry::<G, Buffered<'_>, Definitions<'_>, G::Values>(
             &mut buffered,
             &definitions,
@@ -373,7 +288,7 @@ pub(crate) fn gather_records<G: Gatherer>(
         room = room.saturating_sub(count);
         gatherer.record(id, code, values, first, after)?;
         first = after;
-        if gatherer.counts() {
+        if gatherer.passes() {
             *used = spent;
             return Ok(first);
         }
@@ -381,7 +296,7 @@ pub(crate) fn gather_records<G: Gatherer>(
 }
 
 /// Gathers records of a block that is no BLOCKINFO block from a bit on, as long as they are completely buffered, and returns the bit
-/// after the last one. The gatherer needs only the number of their values.
+/// after the last one. The gatherer passes over what it can.
 #[inline(always)]
 pub(crate) fn count_records<G: Gatherer>(
     parts: BufferedParts<'_>,
@@ -450,7 +365,7 @@ fn count_on<G: Gatherer>(
         let buffered = buffered_from(parts, first, window);
         let run = gather_odd(buffered, frame, limits, used, gatherer, values)?;
         first = run.after;
-        if run.is_over || !gatherer.counts() {
+        if run.is_over || !gatherer.passes() {
             return Ok(first);
         }
         let run = pass_placed(parts, first, frame, plans, limits, used, gatherer)?;
@@ -461,7 +376,7 @@ fn count_on<G: Gatherer>(
     }
 }
 
-/// Gathers such records as long as the gatherer needs their values, or as long as it does not.
+/// Gathers such records as long as the gatherer passes over records, or as long as it does not.
 #[inline(always)]
 fn gather_turn<G: Gatherer>(
     parts: BufferedParts<'_>,
@@ -486,15 +401,15 @@ fn gather_turn<G: Gatherer>(
         (beyond (bits_of_parts parts.entry) (start - (bits_of_parts parts.entry).position))
         gatherer.old gatherer.new) }
 {
-    if gatherer.counts() {
+    if gatherer.passes() {
         return count_records(parts, start, loaded, frame, limits, used, gatherer, values);
     }
     let buffered = buffered_from(parts, start, loaded);
-    gather_records(parts, buffered, frame, limits, used, gatherer, values)
+    gather_records(buffered, frame, limits, used, gatherer, values)
 }
 
-/// Gathers all such records. Where the gatherer begins or ends to need their values, it goes on: an exact reader takes these bits when
-/// all of them were gathered, and so asks its source where it would if the gatherer needed the values of all.
+/// Gathers all such records. Where the gatherer begins or ends to pass over records, it goes on: an exact reader takes these bits when
+/// all of them were gathered, and so asks its source where it would if the gatherer passed over none.
 #[inline(always)]
 pub(crate) fn gather_by_turns<G: Gatherer>(
     parts: BufferedParts<'_>,
@@ -522,9 +437,9 @@ pub(crate) fn gather_by_turns<G: Gatherer>(
     let mut first = start;
     let mut window = loaded;
     loop {
-        let counts = gatherer.counts();
+        let passes = gatherer.passes();
         let after = gather_turn(parts, first, window, frame, limits, used, gatherer, values)?;
-        if after == first || gatherer.counts() == counts {
+        if after == first || gatherer.passes() == passes {
             return Ok(after);
         }
         first = after;

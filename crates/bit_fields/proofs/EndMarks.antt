@@ -145,13 +145,14 @@ multiple n i whole = least (suc i / suc n) refl
     least zero is = absurd (omega (arith, div-add-mod' (suc i) (suc n), ap (λ (q : ℕ). q * suc n) is, whole))
     least (suc k) is = (k, omega (arith, div-add-mod' (suc i) (suc n), ap (λ (q : ℕ). q * suc n) is, whole))
 
-first_marked : (payload limit mask word s high : ℕ) → 1 ≤ payload → limit ≤ 57 → Marks (suc payload) limit mask word → mask ≡ 2 ^ s * (1 + 2 * high) → FirstReads (suc payload) (suc s) word
-first_marked payload limit mask word s high some short m is =
+-- the chunks up to the lowest mark are a number
+pub ends_marked : (payload limit mask word s high : ℕ) → Marks (suc payload) limit mask word → mask ≡ 2 ^ s * (1 + 2 * high) → (k : ℕ) × (suc s ≡ suc k * suc payload) × EndsChunks payload (suc k) word
+ends_marked payload limit mask word s high m is =
     let here = m.one s (low_set mask s high is) in
     let k = multiple payload s here.1 in
     let place : s ≡ k.0 * suc payload + payload = omega (arith, k.1) in
     let off : bit_at word (k.0 * suc payload + payload) ≡ 0 = subst (λ (i : ℕ). bit_at word i ≡ 0) place here.2 in
-    subst (λ (bits : ℕ). FirstReads (suc payload) bits word) (sym k.1) (record { value = payload_number payload (suc k.0) word; reads = λ more p rest. chunks_read payload k.0 word more p rest some (omega (arith, k.1, here.0, short)) (ends_chunks payload k.0 word off (on k.0 place here.0)) })
+    (k.0, k.1, ends_chunks payload k.0 word off (on k.0 place here.0))
   where
     on : (k : ℕ) → s ≡ k * suc payload + payload → s < limit → (j : ℕ) → j < k → bit_at word (j * suc payload + payload) ≡ 1
     on k place lt j less =
@@ -160,6 +161,12 @@ first_marked payload limit mask word s high some short m is =
         let gap : s ≡ i + suc (s - suc i) = omega (arith, place, below) in
         let e : suc i ≡ suc j * suc payload = omega arith in
         m.none i (omega (arith, gap, lt)) (ap (λ (x : ℕ). x % suc payload) e ∙ mul-mod_left (suc j) (suc payload)) (low_clear mask s high i (s - suc i) is gap)
+
+first_marked : (payload limit mask word s high : ℕ) → 1 ≤ payload → limit ≤ 57 → Marks (suc payload) limit mask word → mask ≡ 2 ^ s * (1 + 2 * high) → FirstReads (suc payload) (suc s) word
+first_marked payload limit mask word s high some short m is =
+    let k = ends_marked payload limit mask word s high m is in
+    let within : s < limit = (m.one s (low_set mask s high is)).0 in
+    subst (λ (bits : ℕ). FirstReads (suc payload) bits word) (sym k.1) (record { value = payload_number payload (suc k.0) word; reads = λ more p rest. chunks_read payload k.0 word more p rest some (omega (arith, k.1, within, short)) k.2 })
 
 behind_first : (n limit mask word s high : ℕ) → Marks n limit mask word → mask ≡ 2 ^ s * (1 + 2 * high) → Marks n (limit - suc s) high (word / 2 ^ suc s)
 behind_first n limit mask word s high m is =

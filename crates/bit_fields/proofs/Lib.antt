@@ -34,4 +34,7 @@ pub mod Placing
 pub mod LongSixes
 pub mod PlainRecords
 pub mod PlainPlaces
+pub mod PlacedNumbers
 pub mod LastChunks
+pub mod Pens
+pub mod WrittenSixes

@@ -104,7 +104,7 @@ all_tops n at tops most t = record {
 
 -- ---- few numbers
 
-marks_of : (n tops ends : ℕ) → AreTops n tops → ends < 2 ^ 64 → Marks n 57 (bit_and ends tops) (bit_not w64 ends)
+pub marks_of : (n tops ends : ℕ) → AreTops n tops → ends < 2 ^ 64 → Marks n 57 (bit_and ends tops) (bit_not w64 ends)
 marks_of n tops ends are fits = record {
   one = λ i set.
       let top : bit_at tops i ≡ 1 = omega (arith, both i, set, bit_at-lt tops i, bit_at-lt ends i) in
@@ -355,7 +355,7 @@ six_one ends a fits shows some =
     let value : payload_number 5 1 (bit_not w64 ends) ≡ bit_and (bit_not w64 ends) 31 = omega (arith, and_mask (bit_not w64 ends) 5) in
     subst (λ (v : ℕ). Reads (vbr 6) a v (beyond a 6)) value (six_reads 0 ends a fits (omega arith) shows (set_bit ends 5 some) (λ j lt. absurd (omega (arith, lt))))
 
-or_above : (low high k : ℕ) → low < 2 ^ k → bit_or low (high * 2 ^ k) ≡ low + high * 2 ^ k
+pub or_above : (low high k : ℕ) → low < 2 ^ k → bit_or low (high * 2 ^ k) ≡ low + high * 2 ^ k
 or_above low high k lt = omega (arith, or_comm low (high * 2 ^ k), or_shifted high k low lt)
 
 two_payloads : (word : ℕ) → bit_or (bit_and word 31) (bit_and (word / 2) 992) ≡ word % 32 + (word / 64 % 32) * 32

@@ -1,8 +1,7 @@
 -- Records that are not abbreviated, as buffered bits show them.
-use Rattle.std.proofs.Common.{◌≡◌, ℕ, zero, suc, ◌+◌, ◌-◌, ◌≤◌, Bool, List, [], ◌∷◌, ◌++◌, length, take, drop, Result, Ok, Err, refl, sym, ap, ◌∙◌, subst, arith, append_assoc, length-append}
+use Rattle.std.proofs.Common.{◌≡◌, ℕ, zero, suc, ◌+◌, ◌-◌, ◌≤◌, Bool, List, [], ◌∷◌, ◌++◌, length, take, drop, Result, Ok, Err, refl, sym, ap, ◌∙◌, subst, arith, append_assoc}
 use Rattle.std.proofs.lemmas.Bool.{le-leb}
 use Rattle.std.proofs.lemmas.List.{append-nil, take-append-drop, drop_at}
-use Rattle.std.proofs.Math.Seq.{take-add}
 use Rattle.bit_grammar.specs.Bits.{bits_of}
 use Rattle.bit_grammar.specs.FormatFields.{shortest}
 use Rattle.bit_grammar.specs.Grammar.{Grammar, Fault, repeat, reading}
@@ -10,15 +9,16 @@ use Rattle.bit_grammar.specs.Fields.{vbr}
 use Rattle.bit_grammar.specs.Record.{value_count, unabbreviated}
 use Rattle.bit_grammar.specs.Normal.{values_bits, entry_text}
 use Rattle.bit_fields.specs.Buffered.{BufferedBits, Reads, beyond}
-use Rattle.bit_fields.specs.SixBits.{Begins, NeedsAll, Shortest, TakesShortest, TakesPlain}
-use Rattle.bit_fields.proofs.BitLaws.{take-bits_of, drop_more}
+use Rattle.bit_fields.specs.Pens.{TakesPlain}
+use Rattle.bit_fields.specs.SixBits.{Begins, NeedsAll, Shortest, TakesShortest}
+use Rattle.bit_fields.proofs.BitLaws.{take-bits_of}
 use Rattle.bit_fields.proofs.BufferedReads.{reads_beyond, reads_passed}
 use Rattle.bit_fields.proofs.SixBits.{begun_front}
 use Rattle.bit_fields.proofs.SixBitForms.{front_bits, needs_shortest}
 
 -- ---- one after another
 
-values-append : (a b : List ℕ) → values_bits (a ++ b) ≡ values_bits a ++ values_bits b
+pub values-append : (a b : List ℕ) → values_bits (a ++ b) ≡ values_bits a ++ values_bits b
 values-append [] b = refl
 values-append (v ∷ a) b = ap (λ (s : List Bool). shortest 6 v ++ s) (values-append a b) ∙ sym (append_assoc (shortest 6 v) (values_bits a) (values_bits b))
 
@@ -55,14 +55,6 @@ repeat_both {A} rule (suc m) n k p s xs ys q t u v all e f = subst (λ (i : ℕ)
     first (Err fault) is later = absurd (not_ok (xs, q, t) fault (sym (rw is refl) ∙ e))
     first (Ok x) is later = last x is later (reading (repeat m rule) x.1 x.2) refl
 
-pub then_taken : (m n : ℕ) (a b c : BufferedBits) → TakesShortest m a b → TakesShortest n b c → TakesShortest (m + n) a c
-then_taken m n a b c x y = record {
-  values = x.values ++ y.values;
-  count = length-append x.values y.values ∙ ap (λ (k : ℕ). k + length y.values) x.count ∙ ap (λ (k : ℕ). m + k) y.count;
-  reads = repeat_both (vbr 6) m n (m + n) a.position a.bits x.values y.values b.position b.bits c.position c.bits refl x.reads y.reads;
-  spelled = x.spelled ∙ ap (λ (s : List Bool). values_bits x.values ++ s) y.spelled ∙ sym (append_assoc (values_bits x.values) (values_bits y.values) c.bits) ∙ ap (λ (s : List Bool). s ++ c.bits) (sym (values-append x.values y.values));
-}
-
 -- the numbers at the front of a word
 pub word_taken : (n bits word : ℕ) (b : BufferedBits) → bits_of bits word ≡ take bits b.bits → Begins word n bits → Shortest word bits → bits ≤ 54 → TakesShortest n b (beyond b bits)
 word_taken n bits word b front begins shortest most =
@@ -92,12 +84,12 @@ number_taken v bits a b seen bits_is needs =
 
 -- ---- a record
 
-record Parts (room : ℕ) (a : BufferedBits) (code many : ℕ) (d b : BufferedBits) (all : List ℕ) : Type 0 where
+pub record Parts (room : ℕ) (a : BufferedBits) (code many : ℕ) (d b : BufferedBits) (all : List ℕ) : Type 0 where
   pub values : List ℕ
   pub all_are : all ≡ code ∷ many ∷ values
   pub reads : Reads (repeat many (vbr 6)) d values b
 
-parts_of : (room : ℕ) (a : BufferedBits) (code : ℕ) (c : BufferedBits) (many : ℕ) (d b : BufferedBits) (all : List ℕ) → Reads (vbr 6) a code c → Reads (vbr 6) c many d → Reads (repeat (suc (suc many)) (vbr 6)) a all b → Parts room a code many d b all
+pub parts_of : (room : ℕ) (a : BufferedBits) (code : ℕ) (c : BufferedBits) (many : ℕ) (d b : BufferedBits) (all : List ℕ) → Reads (vbr 6) a code c → Reads (vbr 6) c many d → Reads (repeat (suc (suc many)) (vbr 6)) a all b → Parts room a code many d b all
 parts_of room a code c many d b all first second e = go (reading (repeat many (vbr 6)) d.position d.bits) refl
   where
     go : (r : Result (List ℕ × ℕ × List Bool) Fault) → reading (repeat many (vbr 6)) d.position d.bits ≡ r → Parts room a code many d b all
@@ -110,38 +102,25 @@ parts_of room a code c many d b all first second e = go (reading (repeat many (v
           reads = is ∙ ap (λ (z : List ℕ × ℕ × List Bool). Ok (x.0, z.1, z.2)) same;
         }
 
-record_read : (room code many : ℕ) (values : List ℕ) (a c d b : BufferedBits) → many ≤ room → Reads (vbr 6) a code c → Reads (vbr 6) c many d → Reads (repeat many (vbr 6)) d values b → Reads (unabbreviated room) a (record { code = code; values = values }) b
+pub record_read : (room code many : ℕ) (values : List ℕ) (a c d b : BufferedBits) → many ≤ room → Reads (vbr 6) a code c → Reads (vbr 6) c many d → Reads (repeat many (vbr 6)) d values b → Reads (unabbreviated room) a (record { code = code; values = values }) b
 unfolding unabbreviated value_count
 record_read room code many values a c d b few first second third = let holds = le-leb many room few in rw (first, second, holds, third) refl
 
-pub plain_taken : (room code many : ℕ) (a c d b : BufferedBits) → many ≤ room → many ≤ 65536 → Reads (vbr 6) a code c → Reads (vbr 6) c many d → TakesShortest (many + 2) a b → TakesPlain room a code many b
-plain_taken room code many a c d b few small first second taken =
+pub plain_taken : (room code many len : ℕ) (a c d : BufferedBits) (all : List ℕ) (spelling : List Bool) → many ≤ room → Reads (vbr 6) a code c → Reads (vbr 6) c many d → len ≤ length a.bits → Reads (repeat (many + 2) (vbr 6)) a all (beyond a len) → length all ≡ many + 2 → spelling ≡ bits_of 2 3 ++ values_bits all → TakesPlain room many a spelling (beyond a len)
+plain_taken room code many len a c d all spelling few first second there taken all_many spelled =
+    let b : BufferedBits = beyond a len in
     let two : many + 2 ≡ suc (suc many) = omega arith in
-    let parts = parts_of room a code c many d b taken.values first second (subst (λ (k : ℕ). Reads (repeat k (vbr 6)) a taken.values b) two taken.reads) in
-    let count : length parts.values ≡ many = omega (arith, ap length parts.all_are, taken.count) in
-    let text : values_bits taken.values ≡ entry_text code parts.values =
+    let parts = parts_of room a code c many d b all first second (subst (λ (k : ℕ). Reads (repeat k (vbr 6)) a all b) two taken) in
+    let count : length parts.values ≡ many = omega (arith, ap length parts.all_are, all_many) in
+    let text : values_bits all ≡ entry_text code parts.values =
     ap values_bits parts.all_are ∙ ap (λ (k : ℕ). shortest 6 code ++ (shortest 6 k ++ values_bits parts.values)) (sym count) in
     record {
+      code = code;
       values = parts.values;
-      count = count;
-      few = few;
-      small = small;
+      many = count;
+      len = len;
+      there = there;
+      is = refl;
       reads = record_read room code many parts.values a c d b few first second parts.reads;
-      spelled = taken.spelled ∙ ap (λ (s : List Bool). s ++ b.bits) text;
+      spelled = spelled ∙ ap (λ (s : List Bool). bits_of 2 3 ++ s) text;
     }
-
--- ---- a copy
-
--- the last bits were copied
-pub copy_end : (n k m : ℕ) (from b : BufferedBits) (old now new : List Bool) → now ≡ old ++ take k from.bits → b ≡ beyond from k → new ≡ now ++ take n b.bits → m ≡ k + n → new ≡ old ++ take m from.bits
-copy_end n k m from b old now new now_is b_is new_is m_is =
-    new_is ∙ ap (λ (s : List Bool). s ++ take n b.bits) now_is ∙ ap (λ (x : BufferedBits). (old ++ take k from.bits) ++ take n x.bits) b_is ∙ append_assoc old (take k from.bits) (take n (drop k from.bits)) ∙ ap (λ (s : List Bool). old ++ s) (sym (take-add k n from.bits)) ∙ ap (λ (i : ℕ). old ++ take i from.bits) (sym m_is)
-
--- more bits were copied
-pub copy_on : (n k m : ℕ) (from b : BufferedBits) (old now new : List Bool) (value : ℕ) → now ≡ old ++ take k from.bits → b ≡ beyond from k → bits_of n value ≡ take n b.bits → new ≡ now ++ bits_of n value → m ≡ k + n → new ≡ old ++ take m from.bits
-copy_on n k m from b old now new value now_is b_is value_is new_is m_is = copy_end n k m from b old now new now_is b_is (new_is ∙ ap (λ (s : List Bool). now ++ s) value_is) m_is
-
-pub beyond_on : (n k m : ℕ) (from b c : BufferedBits) → b ≡ beyond from k → c ≡ beyond b n → m ≡ k + n → c ≡ beyond from m
-beyond_on n k m from b c b_is c_is m_is =
-    let place : from.position + k + n ≡ from.position + m = omega (arith, m_is) in
-    c_is ∙ ap (λ (x : BufferedBits). beyond x n) b_is ∙ rw (place, drop_more k n from.bits, m_is) refl

@@ -18,3 +18,4 @@ pub mod Expected
 pub mod SixBits
 pub mod Placed
 pub mod PlacedView
+pub mod Pens

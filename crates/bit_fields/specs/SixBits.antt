@@ -3,8 +3,7 @@ use Rattle.std.specs.Prelude.{◌≡◌, ℕ, ◌+◌, ◌*◌, ◌/◌, ◌^◌
 use Rattle.bit_grammar.specs.Bits.{bits_of}
 use Rattle.bit_grammar.specs.Grammar.{repeat, reading}
 use Rattle.bit_grammar.specs.Fields.{vbr}
-use Rattle.bit_grammar.specs.Record.{unabbreviated}
-use Rattle.bit_grammar.specs.Normal.{values_bits, entry_text}
+use Rattle.bit_grammar.specs.Normal.{values_bits}
 use Rattle.bit_fields.specs.Buffered.{BufferedBits, Reads}
 use Rattle.bit_fields.specs.Short.{EndsChunks}
 
@@ -38,13 +37,3 @@ NeedsAll value bits = 6 < bits → 2 ^ (5 * (bits / 6 - 1)) ≤ value
 -- two numbers in chunks of six bits come next, the second is this one
 abbrev pub HasCount : BufferedBits → ℕ → Type 0
 HasCount a count = (code : ℕ) × (b c : BufferedBits) × Reads (vbr 6) a code b × Reads (vbr 6) b count c
-
--- A record that is not abbreviated was taken, after its abbreviation id, with at most `room` values. Its bits are those that a
--- normal form has for it.
-pub record TakesPlain (room : ℕ) (old : BufferedBits) (code many : ℕ) (new : BufferedBits) : Type 0 where
-  pub values : List ℕ
-  pub count : length values ≡ many
-  pub few : many ≤ room
-  pub small : many ≤ 65536
-  pub reads : Reads (unabbreviated room) old (record { code = code; values = values }) new
-  pub spelled : old.bits ≡ entry_text code values ++ new.bits

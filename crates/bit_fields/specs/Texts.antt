@@ -1,22 +1,29 @@
--- Bits that are held in memory, in words.
-use Rattle.std.specs.Prelude.{◌≡◌, ℕ, ◌+◌, ◌*◌, Bool, List, [], ◌∷◌, ◌++◌, length, take, drop}
+-- Bits that are held in memory, in bytes.
+use Rattle.std.specs.Prelude.{◌≡◌, ℕ, ◌+◌, ◌*◌, ◌<◌, ◌≤◌, Bool, List, [], ◌∷◌, ◌++◌, length, take, drop}
 use Rattle.std.specs.Global.{Vec}
-use Rattle.std.specs.List.{flat_map}
-use Rattle.bit_grammar.specs.Bits.{bits_of}
+use Rattle.bit_grammar.specs.Bits.{bits_of, bits_of_bytes}
+use Rattle.bit_fields.specs.Pens.{HoldBits}
 
--- the words of chunks
-abbrev pub words_of_chunks : List (Vec ℕ) → List ℕ
-words_of_chunks [] = []
-words_of_chunks (chunk ∷ chunks) = chunk.items ++ words_of_chunks chunks
+-- the bits of chunks of bytes
+abbrev pub bits_of_chunks : List (Vec ℕ) → List Bool
+bits_of_chunks [] = []
+bits_of_chunks (chunk ∷ chunks) = bits_of_bytes chunk.items ++ bits_of_chunks chunks
 
 -- each chunk is full
 abbrev pub AreFull : List (Vec ℕ) → Type 0
 AreFull [] = Unit {0}
-AreFull (chunk ∷ chunks) = (length chunk.items ≡ 262144) × AreFull chunks
+AreFull (chunk ∷ chunks) = (length chunk.items ≡ 1048576) × AreFull chunks
 
--- the bits of words of 32 bits in order, the low bit of each first
-abbrev pub bits_of_words : List ℕ → List Bool
-bits_of_words words = flat_map (bits_of 32) words
+-- the bits of full chunks, and of a last one up to a position
+abbrev pub text_of : List (Vec ℕ) → List ℕ → ℕ → List Bool
+text_of full last at = bits_of_chunks full ++ take at (bits_of_bytes last)
+
+-- full chunks, and a last one that holds bits up to a position
+pub record IsText (full : List (Vec ℕ)) (last : List ℕ) (at : ℕ) : Type 0 where
+  pub are_full : AreFull full
+  pub few : length last ≤ 1081344
+  pub there : at ≤ 8 * length last
+  pub holds : 0 < length last → HoldBits last (take at (bits_of_bytes last))
 
 -- a text with one word replaced
 abbrev pub with_word : (place word : ℕ) → List Bool → List Bool

@@ -14,7 +14,7 @@
 //! The values of a record go to a `ValueTaker`: `Vec<u64>` keeps them, `ValueCount` counts them, `PackedValues` keeps them in 1,
 //! 2 or 10 bytes each, and `ExpectedValues` compares them with another record's. `KeptSource` keeps the bytes that its source gives,
 //! and `FrontSource` gives only the first of them.
-//! `BitText` holds bits in memory: 32-bit words in chunks, which grow without a copy.
+//! `BitText` holds bits in memory: bytes in chunks of 1 MiB, which grow without a copy.
 #![tactic(auto)]
 
 mod buffered;
@@ -35,6 +35,7 @@ mod numbers;
 mod packed;
 #[cfg(test)]
 mod packed_tests;
+mod pen;
 mod placed;
 #[cfg(test)]
 mod placed_tests;
@@ -48,18 +49,21 @@ mod source;
 #[cfg(test)]
 mod tests;
 mod text;
+#[cfg(test)]
+mod text_tests;
 mod values;
 mod wide;
 mod width;
 mod window;
 mod word;
-mod word_list;
 #[cfg(test)]
 mod word_tests;
 mod writer;
 mod writer_laws;
 #[cfg(test)]
 mod writer_tests;
+#[cfg(test)]
+mod written_tests;
 
 pub use bit_grammar::{MOST_BYTES, MOST_DEPTH, MOST_VALUES, Reason, Shapes};
 pub use buffered::{Buffered, BufferedParts};
@@ -70,7 +74,9 @@ pub use head::{Head, Wrapper};
 pub use keeper::ValueKeeper;
 pub use kept::KeptSource;
 pub use limits::Limits;
+pub use numbers::character;
 pub use packed::{PackedValues, ValueParts};
+pub use pen::{put, put_front, put_number, put_two, take_back};
 pub use placed::{ChunkTops, LoadedBits, PlacedBits};
 pub use reader::BitReader;
 pub use sink::{Sink, SinkFailed, VecSink, WriteSink};

@@ -8,7 +8,7 @@ ghost use Rattle.bit_fields.specs.Placed.{AreTops, Shows, bits_at};
 
 mod bits;
 mod loads;
-mod plain;
+mod numbers;
 mod tops;
 
 /// Buffered bits of a stream, from a position on.

@@ -1,14 +1,15 @@
-//! Lengths of numbers in placed bits, at each bit of a byte.
+//! Numbers in placed bits and their lengths, at each bit of a byte.
 
-ghost use Rattle.std.specs.Prelude.{◌≤◌, length};
+ghost use Rattle.std.specs.Prelude.{◌≤◌, length, IfSome};
+ghost use Rattle.bit_fields.specs.PlacedView.{placed};
 
 use crate::{Buffered, BufferedParts, ChunkTops, ChunkWidth, FieldWidth, LoadedBits, PlacedBits};
-use std::alloc::{AllocError, Global};
 use std::process::Abort;
 
-/// A load of the bits after the first `first`, if 64 are there.
-fn loaded_at(bytes: &[u8], first: u64) -> Option<LoadedBits<'_>>
+/// The bits after the first `first`, if 64 are there.
+pub(crate) fn placed_at(bytes: &[u8], first: u64) -> Option<PlacedBits<'_>>
     requires { length bytes.now ≤ 65536 }
+    ensures { IfSome result (λ bits. 64 ≤ length (placed bits).bits) }
 {
     let parts = BufferedParts {
         word: 0,
@@ -24,7 +25,14 @@ fn loaded_at(bytes: &[u8], first: u64) -> Option<LoadedBits<'_>>
     if !bits.has(64) {
         return None;
     }
-    Some(bits.load())
+    Some(bits)
+}
+
+/// A load of them.
+fn loaded_at(bytes: &[u8], first: u64) -> Option<LoadedBits<'_>>
+    requires { length bytes.now ≤ 65536 }
+{
+    Some(placed_at(bytes, first)?.load())
 }
 
 /// A number of two or more chunks, all but the last of ones, and then numbers of one chunk. They begin at bit `first`.
@@ -58,6 +66,15 @@ fn numbers_of_one_to_thirteen_chunks(rt: HostRuntime) {
             match loaded_at(&bytes, u64::from(first)) {
                 Some(loaded) => {
                     assert!(rt; six_lens(loaded) == [few(18), few(54), Some(len), Some(len)])
+                }
+                None => panic!(rt; "64 bits are there"),
+            }
+            // the payloads before the last one are ones
+            let value = u64::MAX.checked_shr(69 - 5 * chunks).unwrap_or(0);
+            match placed_at(&bytes, u64::from(first)) {
+                Some(bits) => {
+                    let near = number_placed(bits, bits.near_number(6, 40));
+                    assert!(rt; near == Some((value, len)));
                 }
                 None => panic!(rt; "64 bits are there"),
             }
@@ -132,7 +149,7 @@ fn few_numbers_of_any_width(rt: HostRuntime) {
 
 /// The bytes of an input: bits of which each fourth is a one, or after an odd seed three of four, so that numbers are long. They come
 /// from a generator by shifts.
-fn made(seed: u64) -> [u8; 56] {
+pub(crate) fn made(seed: u64) -> [u8; 56] {
     let mut random = seed.wrapping_mul(0x9E37_79B9_7F4A_7C15) | 1;
     let mut bytes = [0; 56];
     for byte in &mut bytes {
@@ -150,75 +167,145 @@ fn made(seed: u64) -> [u8; 56] {
     bytes
 }
 
-/// A record as it is read number by number.
-#[derive(Drop)]
-struct Apart {
-    count: u64,
-    /// Whether each number is in its shortest spelling.
-    shortest: bool,
-    /// Whether each number ends before the last 64 bits, and begins 64 bits before these.
-    there: bool,
-}
-
-/// Reads the next number of a record.
-fn number_apart(buffered: &mut Buffered<'_>, apart: &mut Apart) -> Option<u64> {
-    let (first, left) = (buffered.position(), buffered.len());
-    let value = buffered.vbr(ChunkWidth { bits: 6 })?;
-    let digits = 64 - value.leading_zeros();
-    let chunks = (u64::from(digits.max(1)) + 4) / 5;
-    apart.shortest &= buffered.position().wrapping_sub(first) == 6 * chunks;
-    apart.there &= left >= 128 && buffered.len() >= 64;
-    Some(value)
-}
-
-/// Reads a record that is not abbreviated number by number.
-fn read_apart(buffered: &mut Buffered<'_>) -> Option<Apart> {
-    let mut apart = Apart {
-        count: 0,
-        shortest: true,
-        there: true,
-    };
-    number_apart(buffered, &mut apart)?;
-    let count = number_apart(buffered, &mut apart)?;
-    for _ in 0..count {
-        number_apart(buffered, &mut apart)?;
-    }
-    apart.count = count;
-    Some(apart)
-}
-
-/// Whether the record at the given bit of an input is taken as its bits, with the last eight bytes left out. If so, it is as it is
-/// read number by number, and each number is in its shortest spelling. If not, that is not so, or 64 bits are not there before each
-/// number, or the values are too many.
-fn is_taken(rt: &impl Abort, bytes: &[u8; 56], first: u64) -> bool {
-    let Some(loaded) = loaded_at(&bytes[..48], first) else {
-        return false;
-    };
+/// Buffered bits of an input from the given bit on.
+pub(crate) fn buffered_at(bytes: &[u8; 56], first: u64) -> Buffered<'_> {
     let mut buffered = Buffered::new(BufferedParts {
         word: 0,
         held: 0,
         bytes,
         position: 0,
     });
-    buffered.skip_fields(first.min(99), FieldWidth { bits: 1 });
-    let apart = read_apart(&mut buffered);
-    let len = buffered.position().wrapping_sub(first);
-    match (loaded.bits().plain_record(100, 102), apart) {
-        (Ok(taken), Some(apart)) => {
-            assert!(rt; taken == (apart.count, len) && apart.shortest);
+    buffered.skip_fields(first.min(999), FieldWidth { bits: 1 });
+    buffered
+}
+
+/// A number in chunks of n bits at the given bit of an input and its length, as it is read alone.
+fn number_alone(bytes: &[u8; 56], first: u64, n: u32) -> Option<(u64, u64)>
+    requires least { 2 ≤ n }
+    requires most { n ≤ 32 }
+{
+    let mut buffered = buffered_at(bytes, first);
+    let start = buffered.position();
+    let value = buffered.vbr(ChunkWidth { bits: n })?;
+    Some((value, buffered.position().wrapping_sub(start)))
+}
+
+/// The same, as placed bits give it.
+fn number_placed(bits: PlacedBits<'_>, found: Option<(u64, PlacedBits<'_>)>) -> Option<(u64, u64)> {
+    let (value, after) = found?;
+    Some((value, after.position().wrapping_sub(bits.position())))
+}
+
+/// How many of the numbers at the given bit of an input, one of each width of chunks, have more than 57 bits.
+fn long_numbers(rt: &impl Abort, bytes: &[u8; 56], first: u64) -> u64 {
+    let mut long: u64 = 0;
+    for n in 2..33u32 {
+        let Some(bits) = placed_at(bytes, first) else {
+            return long;
+        };
+        let alone = number_alone(bytes, first, n);
+        assert!(rt; number_placed(bits, bits.near_number(n, 0)) == alone);
+        let followed = match alone {
+            Some((_, len)) => bits.has(len.wrapping_add(64)),
+            None => true,
+        };
+        let told = number_placed(bits, bits.number(n));
+        assert!(rt; told == if followed { alone } else { None });
+        if let Some((_, len)) = alone {
+            long = long.wrapping_add(u64::from(len > 57));
+        }
+        let (from, start, at) = bits.parts();
+        assert!(rt; PlacedBits::of(from, start, at).position() == bits.position());
+    }
+    long
+}
+
+#[test]
+fn numbers_read_alone(rt: HostRuntime) {
+    let mut long: u64 = 0;
+    for seed in 0..20 {
+        let bytes = made(seed);
+        for first in 0..400 {
+            long = long.wrapping_add(long_numbers(&rt, &bytes, first));
+        }
+    }
+    assert!(rt; long > 10_000, "{long}");
+}
+
+/// What is known of the numbers of a record that were read.
+#[derive(Drop)]
+struct Apart {
+    /// Whether each is in its shortest spelling.
+    shortest: bool,
+    /// Whether 64 bits are behind each.
+    there: bool,
+}
+
+/// Reads the next number of a record.
+fn number_apart(buffered: &mut Buffered<'_>, apart: &mut Apart) -> Option<u64> {
+    let first = buffered.position();
+    let value = buffered.vbr(ChunkWidth { bits: 6 })?;
+    let digits = 64 - value.leading_zeros();
+    let chunks = (u64::from(digits.max(1)) + 4) / 5;
+    apart.shortest &= buffered.position().wrapping_sub(first) == 6 * chunks;
+    apart.there &= buffered.len() >= 64;
+    Some(value)
+}
+
+/// Reads the code and the count of values of a record.
+fn count_apart(buffered: &mut Buffered<'_>, apart: &mut Apart) -> Option<u64> {
+    number_apart(buffered, apart)?;
+    number_apart(buffered, apart)
+}
+
+/// Reads this many values of a record.
+fn values_apart(buffered: &mut Buffered<'_>, apart: &mut Apart, count: u64) -> Option<()> {
+    for _ in 0..count {
+        number_apart(buffered, apart)?;
+    }
+    Some(())
+}
+
+/// Whether the record at the given bit of an input is short and its bits are taken. So they are, if they are in a load, and each number
+/// is in its shortest spelling. The count is the one that is read number by number, if 64 bits are behind it.
+fn is_taken(rt: &impl Abort, bytes: &[u8; 56], first: u64) -> bool {
+    let Some(bits) = placed_at(bytes, first) else {
+        return false;
+    };
+    let mut buffered = buffered_at(bytes, first);
+    let start = buffered.position();
+    let mut apart = Apart {
+        shortest: true,
+        there: true,
+    };
+    let read = count_apart(&mut buffered, &mut apart);
+    let told = bits.plain_count();
+    assert!(rt; told == read || (told.is_none() && !apart.there));
+    let Some(count) = told else {
+        return false;
+    };
+    if count > 7 {
+        return false;
+    }
+    let whole = values_apart(&mut buffered, &mut apart, count).is_some();
+    let len = buffered.position().wrapping_sub(start);
+    let spelled = whole && apart.shortest && len <= 54;
+    match bits.short_plain(count) {
+        Some((word, with_id)) => {
+            let numbers = bits.front(len.min(54) as u32);
+            assert!(rt; spelled && with_id == len.wrapping_add(2));
+            assert!(rt; word % 4 == 3 && word >> 2 == numbers);
             true
         }
-        (Ok(_), None) => panic!(rt; "a record that cannot be read is taken"),
-        (Err(_), Some(apart)) => {
-            assert!(rt; !(apart.shortest && apart.there && apart.count <= 100));
+        None => {
+            assert!(rt; !spelled);
             false
         }
-        (Err(_), None) => false,
     }
 }
 
 #[test]
-fn records_read_apart(rt: HostRuntime) {
+fn short_records_read_apart(rt: HostRuntime) {
     let mut taken: u64 = 0;
     for seed in 0..2000 {
         let bytes = made(seed);
@@ -231,22 +318,16 @@ fn records_read_apart(rt: HostRuntime) {
     assert!(rt; taken > 10_000, "{taken}");
 }
 
-/// What is taken of a record of zeros after these chunks, in so many bytes.
-fn zeros_taken(alloc: Global, front: u64, len: usize) -> Result<Option<(u64, u64)>, AllocError> {
-    let mut bytes = vec![in alloc; 0u8; len.max(8).min(40_000)]?;
+/// The count of values of a record with these chunks first, and zeros behind them.
+fn count_of(front: u64) -> Option<u64> {
+    let mut bytes = [0; 24];
     bytes[..8].copy_from_slice(&front.to_le_bytes());
-    let Some(loaded) = loaded_at(&bytes, 0) else {
-        return Ok(None);
-    };
-    Ok(loaded.bits().plain_record(65_536, 65_537).ok())
+    placed_at(&bytes, 0)?.plain_count()
 }
 
 #[test]
-fn record_of_many_values(rt: HostRuntime) {
+fn counts_of_many_chunks(rt: HostRuntime) {
     // a code of 8 and a count of 40,000, in octal, the first chunk last; the second time with a chunk more
-    let (count, longer) = (0o01_47_42_40_10, 0o00_41_47_42_40_10);
-    let len = 6 * 40_005;
-    assert!(rt; zeros_taken(rt.alloc(), count, 30_020) == Ok(Some((40_000, len))));
-    assert!(rt; zeros_taken(rt.alloc(), count, 30_000) == Ok(None));
-    assert!(rt; zeros_taken(rt.alloc(), longer, 30_020) == Ok(None));
+    assert!(rt; count_of(0o01_47_42_40_10) == Some(40_000));
+    assert!(rt; count_of(0o00_41_47_42_40_10) == Some(40_000));
 }

@@ -19,9 +19,11 @@ pub mod SharedFronts
 pub mod Signs
 pub mod Texts
 pub mod ValueTexts
+pub mod Written
 pub mod Building
 pub mod Forms
 pub mod Told
 pub mod Telling
 pub mod Calls
-pub mod PlainRecords
+pub mod WrittenRuns
+pub mod BuiltRuns

@@ -1,5 +1,5 @@
 -- A normal form that is being built, and the form after the events that follow.
-use Rattle.std.specs.Prelude.{◌≡◌, ℕ, suc, ◌+◌, ◌-◌, ◌/◌, ◌%◌, ◌^◌, ◌<◌, ◌≤◌, Bool, true, false, List, [], ◌∷◌, ◌++◌, length, min, take, ◌&&◌, Option, Some, None}
+use Rattle.std.specs.Prelude.{◌≡◌, ℕ, suc, ◌+◌, ◌-◌, ◌/◌, ◌%◌, ◌^◌, ◌<◌, ◌≤◌, Bool, true, false, List, [], ◌∷◌, ◌++◌, length, min, take, ◌&&◌}
 use Rattle.std.specs.List.{list_all}
 use Rattle.bit_grammar.specs.Setting.{keeps, keeps_record}
 use Rattle.bit_grammar.specs.Under.{ids_behind, innermost, events_under}
@@ -8,11 +8,7 @@ use Rattle.bit_grammar.specs.Forest.{Forest}
 use Rattle.bit_grammar.specs.Machine.{Event, Opened, enters, notes, leaves}
 use Rattle.bit_grammar.specs.Marks.{RecordMark}
 use Rattle.bit_grammar.specs.Normal.{values_bits, end_text, normal}
-use Rattle.bit_grammar.specs.Record.{unabbreviated}
 use Rattle.bit_grammar.specs.Size.{end_of}
-use Rattle.bit_fields.specs.Buffered.{BufferedBits, Reads, beyond}
-use Rattle.bit_events.specs.Runs.{StaysGathered}
-use Rattle.bit_events.specs.declared.gatherer.PlainRecord.{PlainRecord}
 use Rattle.bit_events.specs.Gathering.{left_open}
 use Rattle.bit_norm.specs.Told.{told_at_level}
 use Rattle.bit_events.specs.Standing.{OpenUnder}
@@ -157,14 +153,6 @@ AddsRecord code values old new = (first : FormBuilder) (done : List Event) (mark
 abbrev pub GrowsTo : List Bool → (limit : ℕ) → (whole : Bool) → List Bool → Type 0
 GrowsTo all limit true new = new ≡ all
 GrowsTo all limit false new = limit < length all / 8
-
--- A record that is not abbreviated, with at most `room` values, was built from the bits after its id; or nothing was built.
-abbrev pub AddsPlain : (room : ℕ) → BufferedBits → FormBuilder → Option PlainRecord → FormBuilder → Type 0
-AddsPlain room a old None new = StaysGathered IsFormOf old new
-AddsPlain room a old (Some taken) new = (code : ℕ) × (list : List ℕ)
-    × (length list ≡ taken.count) × (taken.count ≤ room) × (taken.len + 64 ≤ length a.bits)
-    × Reads (unabbreviated room) a (record { code = code; values = list }) (beyond a taken.len)
-    × AddsRecord code list old new
 
 -- the normal form of the kept events, after the magic
 abbrev pub form_of : FormBuilder → List Event → List Bool

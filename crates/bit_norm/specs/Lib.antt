@@ -9,3 +9,4 @@ pub mod Writing
 pub mod Told
 pub mod Telling
 pub mod Calls
+pub mod Written

@@ -1,30 +1,23 @@
-ghost use Rattle.std.specs.Prelude.{◌≡◌, ◌+◌, ◌*◌, ◌/◌, ◌^◌, ◌<◌, ◌≤◌, ℕ, List, [], ◌++◌, length, take, true, false, IfSome, MatchOption, IfOk, OnOk};
-ghost use Rattle.bit_grammar.specs.Bits.{bits_of};
+ghost use Rattle.std.specs.Prelude.{◌≡◌, ◌+◌, ◌*◌, ◌/◌, ◌^◌, ◌<◌, ◌≤◌, ℕ, List, [], ◌++◌, length, true, false, IfSome, MatchOption, IfOk, OnOk};
 ghost use Rattle.bit_grammar.specs.Machine.{Event};
+ghost use Rattle.bit_grammar.specs.Marks.{RecordMark};
 ghost use Rattle.bit_grammar.specs.Setting.{setting_of};
 ghost use Rattle.bit_grammar.specs.Normal.{most_bytes, values_bits, end_text};
 ghost use Rattle.bit_events.specs.Gathering.{left_open};
 ghost use Rattle.bit_fields.specs.PlacedView.{placed};
 ghost use Rattle.bit_fields.specs.Texts.{with_word};
 ghost use Rattle.bit_events.specs.MachineView.{TookSome};
-ghost use Rattle.bit_norm.specs.Building.{HasTaken, record_left, AddsPlain, AddsRecord, GrowsTo, IsFormOf, StaysAs, BuildsBlock, BuildsEnd, BuildsRecord, IsTooLong, IsWholeForm};
+ghost use Rattle.bit_events.specs.Passing.{GathersRecords, PassesRecords, PassesRun};
+ghost use Rattle.bit_norm.specs.Building.{HasTaken, record_left, AddsRecord, GrowsTo, IsFormOf, StaysAs, BuildsBlock, BuildsEnd, BuildsRecord, IsTooLong, IsWholeForm};
 ghost use Rattle.bit_norm.specs.Writing.{record_front, record_text, enter_text};
 
+use crate::form_run::{End, SHORT, write_records};
 use crate::form_values::{FormValues, is_long};
-use bit_abbrev::Abbrev;
-use bit_events::{Gatherer, OpenBlocks, PlainRecord};
+use bit_abbrev::{Abbrev, Definitions, InForce, Layout, Plan};
+use bit_events::{Gatherer, OpenBlocks, PassedRun};
 use bit_fields::{BitText, Limits, PlacedBits};
 use bit_tree::Info;
 use std::alloc::{AllocError, Global};
-
-/// Names the caller that adds the records of a writer.
-struct Writer;
-
-/// How many numbers may be gone over in vain before anything is in the form.
-const FEW_IN_VAIN: u64 = 64;
-
-/// For how many bits of the form one number more may be gone over in vain.
-const BITS_FOR_ONE_IN_VAIN: u64 = 512;
 
 /// How many values of a record become text before the limit on bytes is tested again.
 const PIECE: usize = 64;
@@ -51,7 +44,8 @@ fn close_block(text: &mut BitText, hole: u64) -> Result<(), AllocError>
     text.fixed(2, 0)?;
     text.pad()?;
     let words = text.len() / 32 - (hole + 1);
-    text.set_word(hole, words as u32)
+    text.set_word(hole, words as u32);
+    Ok(())
 }
 
 /// Adds what comes in a record before its values.
@@ -64,30 +58,15 @@ fn add_record_head(text: &mut BitText, code: u64, count: u64) -> Result<(), Allo
     text.record_front(code, count)
 }
 
-/// Adds a record of few values. `U` names the caller, as in `BitText::numbers`.
+/// Adds a record of few values.
 #[inline(always)]
 #[tactic(auto, using(crate::proofs::ValueTexts::entry_few))]
-fn add_short_record<U>(text: &mut BitText, code: u64, values: &[u64]) -> Result<(), AllocError>
+fn add_short_record(text: &mut BitText, code: u64, values: &[u64]) -> Result<(), AllocError>
     requires few { length text.old < 2 ^ 38 }
     requires short { length values.now ≤ 64 }
     ensures { OnOk result (text.new ≡ text.old ++ record_text code values.now (length text.old)) }
 {
-    text.record::<U>(code, values)
-}
-
-/// Adds a record that has these bits after its id.
-#[inline(always)]
-fn add_copy(text: &mut BitText, from: PlacedBits<'_>, bits: u64) -> Result<(), AllocError>
-    requires few { length text.old < 2 ^ 38 }
-    requires small { bits < 2 ^ 32 }
-    requires there { bits + 64 ≤ length (placed from).bits }
-    ensures { OnOk result (text.new ≡ text.old ++ (bits_of 2 3 ++ take bits (placed from.entry).bits)) }
-{
-    if bits <= 54 {
-        return text.short_plain(from, bits);
-    }
-    text.fixed(2, 3)?;
-    text.copy(from, bits)
+    text.record(code, values)
 }
 
 /// Adds a record whose values have these bits, and moves the bits out of `values`.
@@ -126,7 +105,7 @@ fn add_pieces(
             return Ok(false);
         }
         let count = (values.len() - done).min(PIECE);
-        text.numbers::<Writer>(&values[done..done + count])?;
+        text.numbers(&values[done..done + count])?;
         done += count;
     }
     Ok(true)
@@ -142,8 +121,6 @@ pub(crate) struct FormBuilder<'a> {
     text: BitText,
     holes: Vec<u64>,
     long: bool,
-    /// How many numbers of records were gone over that were then read one by one.
-    vain: u64,
 }
 
 impl<'a> FormBuilder<'a> {
@@ -160,7 +137,6 @@ impl<'a> FormBuilder<'a> {
             text: BitText::new(alloc),
             holes: Vec::new(alloc),
             long: false,
-            vain: 0,
         }
     }
 
@@ -190,7 +166,6 @@ impl<'a> FormBuilder<'a> {
             alloc: _,
             standing: _,
             holes: _,
-            vain: _,
         } = self;
         if long {
             return None;
@@ -213,13 +188,6 @@ impl<'a> FormBuilder<'a> {
             return true;
         }
         !self.standing.leaves_record(code)
-    }
-
-    /// How many numbers of the next record may be gone over in vain. All those gone over so are few beside the bits of the form, so that
-    /// they take little time beside what made these bits.
-    #[inline(always)]
-    fn most_in_vain(&self) -> u64 {
-        (FEW_IN_VAIN + self.text.len() / BITS_FOR_ONE_IN_VAIN).saturating_sub(self.vain)
     }
 
     /// Opens a block that is kept.
@@ -284,7 +252,7 @@ impl<'a> FormBuilder<'a> {
             return Ok(());
         }
         if let Some(all) = values.all() {
-            return add_short_record::<()>(&mut self.text, code, all);
+            return add_short_record(&mut self.text, code, all);
         }
         let added = self.add_long(code, values);
         values.reset();
@@ -304,7 +272,7 @@ impl<'a> FormBuilder<'a> {
             return Ok(());
         }
         if values.len() <= PIECE {
-            return add_short_record::<Writer>(&mut self.text, code, values);
+            return add_short_record(&mut self.text, code, values);
         }
         if add_pieces(&mut self.text, self.limits, code, values)? {
             return Ok(());
@@ -312,33 +280,84 @@ impl<'a> FormBuilder<'a> {
         self.stop();
         Ok(())
     }
+}
 
-    /// Adds a record that is not abbreviated, from the buffered bits after its id, if each of its numbers is in its shortest spelling
-    /// and all records of its block are kept. Returns the number of its values and its length, or `None`, and then nothing is added.
+/// How many bits of text are lent at once.
+const LENT: u64 = 2 * SHORT;
+
+impl<'a> FormBuilder<'a> {
+    /// Adds the records that come first in these bits, as many as it likes.
     #[inline(always)]
-    fn add_plain(
+    fn add_run(
         &mut self,
         bits: PlacedBits<'_>,
+        width: u32,
+        definitions: &Definitions<'_>,
         room: u64,
-    ) -> Result<Option<PlainRecord>, AllocError>
-        ensures { IfOk result (λ taken. AddsPlain room (placed bits.entry) self.old taken self.new) }
+    ) -> Result<PassedRun, AllocError>
+        requires width { width ≤ 32 }
+        requires short { self.old.long ≡ false }
+        requires kept { (code : ℕ) → record_left self.old.standing code ≡ true }
+        ensures { IfOk result (λ run. (run.room ≤ room) × ((records : List RecordMark)
+            × PassesRecords width definitions.now room (placed bits.entry) records run
+            × GathersRecords IsFormOf self.old records self.new)) }
     {
-        if self.long || !self.standing.is_whole() || is_long(&self.text, self.limits) {
-            return Ok(None);
-        }
-        let (count, len) = match bits.plain_record(room, self.most_in_vain()) {
-            Ok(found) => found,
-            Err(numbers) => {
-                self.vain = self.vain.saturating_add(numbers);
-                return Ok(None);
+        let mut bits = bits;
+        let mut room = room;
+        while !is_long(&self.text, self.limits) {
+            let (lent, at) = self.text.lend(LENT)?;
+            let mut bytes = lent;
+            let most = (8 * self.limits.bytes() + 7).saturating_sub(self.text.len());
+            let last = most.min(8 * bytes.len() as u64 - SHORT);
+            let run = write_records(&mut bytes, at, last, bits, width, definitions, room);
+            self.text.give_back(bytes, run.pen)?;
+            bits = run.bits;
+            room = run.room;
+            if run.end != End::Full {
+                return Ok(PassedRun {
+                    after: bits.position(),
+                    room,
+                    is_over: run.end == End::Over,
+                });
             }
-        };
-        if !bits.after(len).has(64) {
-            return Ok(None);
         }
-        add_copy(&mut self.text, bits, len)?;
-        Ok(Some(PlainRecord { count, len }))
+        Ok(PassedRun {
+            after: bits.position(),
+            room,
+            is_over: false,
+        })
     }
+
+    /// Adds the records that come first in these bits, as many as it likes, if all records of their block are kept.
+    #[inline(always)]
+    fn pass_run(
+        &mut self,
+        bits: PlacedBits<'_>,
+        width: u32,
+        definitions: &InForce,
+        room: u64,
+    ) -> Result<PassedRun, AllocError>
+        requires width { width ≤ 32 }
+        ensures { IfOk result (λ run. PassesRun IsFormOf width definitions.now room (placed bits.entry)
+            self.old run self.new) }
+    {
+        if self.long || !self.standing.is_whole() {
+            return Ok(PassedRun::none(bits, room));
+        }
+        self.add_run(bits, width, &definitions.all(), room)
+    }
+}
+
+/// Whether a record with this id may be added with others at once.
+#[inline(always)]
+fn may_pass_run(id: u32, definitions: &Definitions<'_>) -> bool
+    requires { 3 ≤ id }
+{
+    id == 3
+        || match definitions.get((id - 4) as usize) {
+            Some(abbrev) => abbrev.layout() != Layout::Odd,
+            None => false,
+        }
 }
 
 impl<'a> Gatherer for FormBuilder<'a> {
@@ -382,18 +401,30 @@ impl<'a> Gatherer for FormBuilder<'a> {
     }
 
     #[inline(always)]
-    fn takes_plain(&self) -> bool {
-        !self.long && self.standing.is_whole() && self.most_in_vain() >= FEW_IN_VAIN
+    fn passes(&self) -> bool {
+        !self.long && self.standing.is_whole()
     }
 
-    /// A record whose numbers are all in their shortest spelling has the same bits in the form.
     #[inline(always)]
-    fn plain(
+    fn by_plans(&self) -> bool {
+        false
+    }
+
+    #[inline(always)]
+    fn may_pass(&self, id: u32, definitions: &Definitions<'_>, _planned: usize) -> bool {
+        may_pass_run(id, definitions)
+    }
+
+    #[inline(always)]
+    fn pass(
         &mut self,
         bits: PlacedBits<'_>,
+        width: u32,
+        _plans: &[Plan],
+        definitions: &InForce,
         room: u64,
-    ) -> Result<Option<PlainRecord>, AllocError> {
-        self.add_plain(bits, room)
+    ) -> Result<PassedRun, AllocError> {
+        self.pass_run(bits, width, definitions, room)
     }
 
     fn leave(&mut self, _after: u64) -> Result<(), AllocError> {

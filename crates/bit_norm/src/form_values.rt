@@ -67,7 +67,7 @@ fn add_values(
             *holding = Holding::TooLong;
             return Ok(());
         }
-        if let Err(AllocError) = text.numbers::<()>(values) {
+        if let Err(AllocError) = text.numbers(values) {
             *holding = Holding::Unknown;
             return Err(AllocError);
         }

@@ -1,6 +1,7 @@
 //! An input that is read in step with the bytes of another one.
 
-ghost use Rattle.std.specs.Prelude.{◌≡◌, ◌<◌, ◌≤◌, IfOk, OnOk, IfSome, IfNone, None, length};
+ghost use Rattle.std.specs.Prelude.{◌≡◌, ◌<◌, ◌≤◌, IfOk, OnOk, IfSome, IfNone, None, List, length};
+ghost use Rattle.bit_grammar.specs.declared.op.Op.{Op};
 ghost use Rattle.bit_grammar.specs.Setting.{setting_of};
 ghost use Rattle.bit_grammar.specs.Marks.{RecordMark};
 ghost use Rattle.bit_grammar.specs.Machine.{Opened, enters, leaves, notes};
@@ -9,6 +10,7 @@ ghost use Rattle.bit_events.specs.EventView.{event_shown};
 ghost use Rattle.bit_events.specs.Standing.{stands_after};
 ghost use Rattle.bit_fields.specs.Opening.{head_told};
 ghost use Rattle.bit_fields.specs.PlacedView.{placed};
+ghost use Rattle.bit_abbrev.specs.Plans.{ArePlans};
 ghost use Rattle.bit_events.specs.Passing.{PassesRun};
 ghost use Rattle.bit_norm.specs.InStep.{said_of, sign_shown, stand_of, IsBeside, Weighs, PutsDown, StandsBeside, WeighsNext, Steps, Meets};
 ghost use Rattle.bit_norm.specs.InFront.{ComparesBehind, Concludes, Matches};
@@ -19,7 +21,7 @@ use crate::magics::{magic_bit, magic_standing};
 use crate::sign::Sign;
 use crate::walk::{Walk, one_more};
 use crate::writing::number_of_magic;
-use bit_abbrev::{Abbrev, Plan};
+use bit_abbrev::{Abbrev, InForce, Plan};
 use bit_events::{
     CountedRecord, Event, Folded, Gatherer, OpenBlocks, PackedEvent, PassedRun, RecordHead,
     RunCounter, SliceEvents, Uncounted, fold, pass_records,
@@ -404,7 +406,7 @@ impl<'a> Comparer<'a> {
 
     /// Whether an event, which ends at a bit, is not compared.
     #[inline(always)]
-    fn passes(&mut self, after: u64) -> Result<bool, AllocError>
+    fn passes_event(&mut self, after: u64) -> Result<bool, AllocError>
         ensures { IfOk result (λ passes. PassesEvent after self.old passes self.new) }
     {
         if self.passed_to == 0 {
@@ -424,7 +426,8 @@ impl<'a> Comparer<'a> {
         requires width { width ≤ 32 }
         requires found { self.old.compared.found ≡ None }
         requires some { 0 < self.old.passed_to }
-        ensures { IfOk result (λ run. PassesRun Matches width plans.now room (placed bits.entry)
+        ensures { (definitions : List (List Op)) → ArePlans definitions plans.now
+            → IfOk result (λ run. PassesRun Matches width definitions room (placed bits.entry)
             self.old run self.new) }
     {
         let mut equal = EqualRecords {
@@ -634,7 +637,7 @@ impl<'a> Gatherer for Comparer<'a> {
     }
 
     fn enter(&mut self, id: u32, _width: u8, first: u64, body: u64) -> Result<(), AllocError> {
-        if self.passes(body)? {
+        if self.passes_event(body)? {
             return self.pass_enter(id, body);
         }
         if self.second_blocks.enter(id)? {
@@ -644,7 +647,7 @@ impl<'a> Gatherer for Comparer<'a> {
     }
 
     fn define(&mut self, _abbrev: &Abbrev, _first: u64, after: u64) -> Result<(), AllocError> {
-        self.passes(after)?;
+        self.passes_event(after)?;
         Ok(())
     }
 
@@ -657,7 +660,7 @@ impl<'a> Gatherer for Comparer<'a> {
         first: u64,
         after: u64,
     ) -> Result<(), AllocError> {
-        if self.passes(after)? {
+        if self.passes_event(after)? {
             return self.pass_record(code, values, after);
         }
         if self.second_blocks.leaves_record(code) {
@@ -667,7 +670,7 @@ impl<'a> Gatherer for Comparer<'a> {
     }
 
     #[inline(always)]
-    fn counts(&self) -> bool {
+    fn passes(&self) -> bool {
         self.passed_to > 0
     }
 
@@ -676,6 +679,7 @@ impl<'a> Gatherer for Comparer<'a> {
         bits: PlacedBits<'_>,
         width: u32,
         plans: &[Plan],
+        _definitions: &InForce,
         room: u64,
     ) -> Result<PassedRun, AllocError> {
         if self.passed_to == 0 {
@@ -688,7 +692,7 @@ impl<'a> Gatherer for Comparer<'a> {
     }
 
     fn leave(&mut self, after: u64) -> Result<(), AllocError> {
-        if self.passes(after)? {
+        if self.passes_event(after)? {
             return self.pass_leave(after);
         }
         if self.second_blocks.leave() {

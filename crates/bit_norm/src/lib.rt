@@ -28,6 +28,7 @@ mod differences;
 #[cfg(test)]
 mod fault_tests;
 mod form_builder;
+mod form_run;
 mod form_values;
 mod form_writer;
 #[cfg(test)]

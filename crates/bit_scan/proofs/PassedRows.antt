@@ -173,6 +173,6 @@ run_gathered Passes (Ok run) old new blocks x found passed = (
 run_gathered Passes (Err e) old new blocks x found passed = tt
 
 -- two facts of a result as one
-pub both_told : {T D : Type 0} (Are : D → Type 0) (Less : T → Type 0) (Passes : D → T → Type 0) (result : Result T AllocError) → IfOk result Less → ((d : D) → Are d → IfOk result (Passes d)) → IfOk result (λ run. Less run × ((d : D) → Are d → Passes d run))
-both_told Are Less Passes (Ok run) less each = (less, λ d are. each d are)
-both_told Are Less Passes (Err e) less each = tt
+pub both_told : {T : Type 0} (Less Passes : T → Type 0) (result : Result T AllocError) → IfOk result Less → IfOk result Passes → IfOk result (λ run. Less run × Passes run)
+both_told Less Passes (Ok run) less passed = (less, passed)
+both_told Less Passes (Err e) less passed = tt

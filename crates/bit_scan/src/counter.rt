@@ -6,7 +6,7 @@ ghost use Rattle.bit_scan.specs.Cut.{capped_counts, cut_open};
 ghost use Rattle.bit_scan.specs.Rows.{block_tallies};
 
 use crate::rows::{Addition, BlockRow, BlockRows};
-use bit_abbrev::{Abbrev, Plan};
+use bit_abbrev::{Abbrev, InForce, Plan};
 use bit_events::{Gatherer, PassedRun};
 use bit_fields::{PlacedBits, ValueCount, ValueTaker};
 use std::alloc::{AllocError, Global};
@@ -160,7 +160,7 @@ impl Gatherer for Counter {
     }
 
     #[inline(always)]
-    fn counts(&self) -> bool {
+    fn passes(&self) -> bool {
         true
     }
 
@@ -170,6 +170,7 @@ impl Gatherer for Counter {
         bits: PlacedBits<'_>,
         width: u32,
         plans: &[Plan],
+        _definitions: &InForce,
         room: u64,
     ) -> Result<PassedRun, AllocError> {
         match self.open.last() {

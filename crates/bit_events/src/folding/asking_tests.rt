@@ -11,7 +11,7 @@ use crate::passing::{CountedRecord, PassedRun, RunCounter, pass_records};
 use crate::running::gather_records;
 use crate::with_first::WithFirst;
 use crate::{Gatherer, fold};
-use bit_abbrev::{Abbrev, Plan, Planning};
+use bit_abbrev::{Abbrev, InForce, Plan, Planning};
 use bit_fields::{
     BitReader, BufSource, Buffered, Fault, FrontSource, KeptSource, Limits, PlacedBits,
     SliceSource, Source, ValueCount, ValueTaker,
@@ -50,7 +50,7 @@ impl<S: Source, G: Gatherer> Folding<S, G> {
         let buffered = Buffered::new(parts);
         let start = buffered.position();
         let (used, gatherer) = (&mut self.machine.used, &mut self.gatherer);
-        match gather_records(parts, buffered, frame, limits, used, gatherer, values) {
+        match gather_records(buffered, frame, limits, used, gatherer, values) {
             Ok(after) => self.reader.catch_up(after.saturating_sub(start)),
             Err(_) => Err(self.reader.fail(Fault::Memory)),
         }
@@ -312,7 +312,7 @@ impl Gatherer for Counted {
         self.add(code, after)
     }
 
-    fn counts(&self) -> bool {
+    fn passes(&self) -> bool {
         match self.steps.checked_div(self.turn) {
             Some(turns) => turns % 2 == 0,
             None => false,
@@ -324,6 +324,7 @@ impl Gatherer for Counted {
         bits: PlacedBits<'_>,
         width: u32,
         plans: &[Plan],
+        _definitions: &InForce,
         room: u64,
     ) -> Result<PassedRun, AllocError> {
         pass_records(bits, width, plans, room, self)
@@ -338,7 +339,7 @@ impl RunCounter for Counted {
     ghost counted = { λ first records last. Unit {0} };
 
     fn count(&mut self, passed: CountedRecord) -> Result<bool, AllocError> {
-        if !self.counts() {
+        if !self.passes() {
             return Ok(false);
         }
         self.values = self.values.saturating_add(passed.count);

@@ -132,7 +132,7 @@ impl<'a> PlacedBits<'a> {
     /// The length of a number in chunks of n bits that is long, if it is there.
     #[cold]
     #[inline(never)]
-    pub(crate) fn long(self, n: u32) -> Option<u64>
+    fn long(self, n: u32) -> Option<u64>
         requires least { 2 ≤ n }
         requires most { n ≤ 32 }
         ensures has { IfSome result (λ len. HasNumbers n 1 (placed self.entry) len) }

@@ -4,8 +4,8 @@ use Rattle.bit_grammar.specs.Blocks.{entry}
 use Rattle.bit_fields.specs.Buffered.{BufferedBits, Reads, beyond}
 use Rattle.bit_fields.specs.PlacedView.{placed}
 use Rattle.bit_events.specs.declared.passing.CountedRecord.{CountedRecord}
-use Rattle.bit_events.specs.Passing.{mark_of}
-use Rattle.bit_events.proofs.PassedOver.{PassedTo, none_passed, one_passed, passes_records, some_bits}
+use Rattle.bit_events.specs.Passing.{PassedTo, mark_of}
+use Rattle.bit_events.proofs.PassedOver.{none_passed, one_passed, passes_records, some_bits}
 use Rattle.bit_events.proofs.PlacedHeads.{beyond_both, placed_fits}
 use Rattle.bit_events.proofs.passing.pass_records.Goals as goal
 

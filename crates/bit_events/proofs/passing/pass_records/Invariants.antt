@@ -3,7 +3,7 @@ use Rattle.bit_grammar.specs.declared.op.Op.{Op}
 use Rattle.bit_grammar.specs.Marks.{RecordMark}
 use Rattle.bit_fields.specs.PlacedView.{placed}
 use Rattle.bit_abbrev.specs.Plans.{ArePlans}
-use Rattle.bit_events.proofs.PassedOver.{PassedTo}
+use Rattle.bit_events.specs.Passing.{PassedTo}
 use Rattle.bit_events.proofs.passing.pass_records.Given as goal
 
 abbrev pub invariant-loop-bits : goal.invariant-loop-bits

@@ -22,8 +22,8 @@ loop-is_first-init g c = record {
 pub returns-in_default-clause-took : goal.returns-in_default-clause-took
 returns-in_default-clause-took g c = (let was = c.loop-is_first.invariant.took in ([], c.truncate.ensures [] was.0 was.1 refl))
 
-pub returns-then-id-planned-clause-took : goal.returns-then-id-planned-clause-took
-returns-then-id-planned-clause-took g c = (let was = c.loop-is_first.invariant.took in ([], c.truncate.ensures [] was.0 was.1 refl))
+pub returns-then-may_pass-clause-took : goal.returns-then-may_pass-clause-took
+returns-then-may_pass-clause-took g c = (let was = c.loop-is_first.invariant.took in ([], c.truncate.ensures [] was.0 was.1 refl))
 
 pub returns-in_default-read_entry-clause-took : goal.returns-in_default-read_entry-clause-took
 returns-in_default-read_entry-clause-took g c = (let was = c.loop-is_first.invariant.took in c.in_default-read_entry.ensures.keeps [] (c.truncate.ensures [] was.0 was.1 refl))

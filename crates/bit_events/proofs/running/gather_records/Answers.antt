@@ -1,17 +1,13 @@
-use Rattle.std.proofs.Common.{◌≡◌, ℕ, ◌+◌, ◌-◌, List, [], Option, Some, refl, sym, ap, ◌∙◌, subst, arith, length}
+use Rattle.std.proofs.Common.{◌≡◌, ℕ, ◌+◌, ◌-◌, List, [], Some, refl, sym, ap, ◌∙◌, subst, arith, length}
 use Rattle.std.proofs.lemmas.Result.{err_from_is_err_and}
-use Rattle.bit_grammar.specs.Fields.{fixed}
 use Rattle.bit_grammar.specs.Terms.{CodeAndValues}
 use Rattle.bit_grammar.specs.Blocks.{entry}
-use Rattle.bit_fields.specs.Buffered.{BufferedBits, beyond, reader_at}
-use Rattle.bit_fields.specs.BufferedParts.{bits_of_parts}
+use Rattle.bit_fields.specs.Buffered.{reader_at}
 use Rattle.bit_fields.proofs.BufferedReads.{reads_forward, took_reads}
 use Rattle.bit_events.specs.FrameView.{frame_shown, info_shown}
 use Rattle.bit_events.specs.Gathering.{Gathers}
 use Rattle.bit_events.specs.MachineView.{record_of}
-use Rattle.bit_events.specs.Runs.{GathersFrom, GathersTo, Passed}
-use Rattle.bit_events.proofs.Counting.{later_bits}
-use Rattle.bit_events.proofs.Runs.{added_behind, gathers_none, gathers_more, gathers_still, gathers_then, passed_more, reached, record_seen, stop_later, stop_record}
+use Rattle.bit_events.proofs.Runs.{added_behind, gathers_none, gathers_more, record_seen, stop_later, stop_record}
 use Rattle.bit_events.proofs.running.gather_records.Goals as goal
 
 pub loop-id-init : goal.loop-id-init
@@ -25,62 +21,18 @@ loop-id-init g c = record {
 pub returns-in_default-clause-took : goal.returns-in_default-clause-took
 returns-in_default-clause-took g c = (let was = c.loop-id.invariant.took in ([], c.truncate.ensures [] was.0 was.1 refl))
 
-pub returns-in_err-after-clause-took : goal.returns-in_err-after-clause-took
-returns-in_err-after-clause-took g c = (let was = c.loop-id.invariant.took in ([], c.truncate.ensures [] was.0 was.1 refl))
-
 pub returns-in_default-read_entry-clause-took : goal.returns-in_default-read_entry-clause-took
 returns-in_default-read_entry-clause-took g c = (let was = c.loop-id.invariant.took in c.in_default-read_entry.ensures.keeps [] (c.truncate.ensures [] was.0 was.1 refl))
-
-pub gather_as_bits-requires-clause-there : goal.gather_as_bits-requires-clause-there
-gather_as_bits-requires-clause-there g c =
-    let bits = bits_of_parts c.args.parts in
-    let b = c.record_id.new.buffered in
-    let passed = passed_more (fixed c.args.frame.now.head.width) c.args.buffered c.loop-id.buffered c.in-Some.id b c.loop-id.invariant.gathers.passed c.in-Some.ensures.reads in
-    (later_bits bits (c.args.buffered.position - bits.position) b c.requires.there (subst (λ (x : BufferedBits). Passed x b) c.requires.here passed)).1
-
-pub gather_as_bits-requires-clause-here : goal.gather_as_bits-requires-clause-here
-gather_as_bits-requires-clause-here g c =
-    let bits = bits_of_parts c.args.parts in
-    let b = c.record_id.new.buffered in
-    let passed = passed_more (fixed c.args.frame.now.head.width) c.args.buffered c.loop-id.buffered c.in-Some.id b c.loop-id.invariant.gathers.passed c.in-Some.ensures.reads in
-    (later_bits bits (c.args.buffered.position - bits.position) b c.requires.there (subst (λ (x : BufferedBits). Passed x b) c.requires.here passed)).2
-
-pub skip-requires : goal.skip-requires
-skip-requires g c =
-    let l = c.loop-id in
-    let b = c.record_id.new.buffered in
-    let h = subst (λ (found : Option ℕ). GathersFrom g.G.Gatherer.gathered c.args.limits.now c.args.frame.now l.spent c.in-Some.id l.first b l.gatherer c.gather_as_bits.new.used found c.gather_as_bits.new.gatherer) c.in-Some-2.is c.in_ok-after.ensures.gathers in
-    let run = h.1 l.buffered (sym l.invariant.first) c.in-Some.ensures.reads in
-    let r = reached (fixed c.args.frame.now.head.width) l.buffered c.in-Some.id b run.0 c.in-Some.ensures.reads run.2.passed (omega (arith, h.0, run.1)) in
-    omega (arith, c.position.ensures, run.1, r.0)
-
-pub loop-id-preserved-in-Some-2 : goal.loop-id-preserved-in-Some-2
-loop-id-preserved-in-Some-2 g c =
-    let l = c.loop-id in
-    let b = c.record_id.new.buffered in
-    let h = subst (λ (found : Option ℕ). GathersFrom g.G.Gatherer.gathered c.args.limits.now c.args.frame.now l.spent c.in-Some.id l.first b l.gatherer c.gather_as_bits.new.used found c.gather_as_bits.new.gatherer) c.in-Some-2.is c.in_ok-after.ensures.gathers in
-    let run = h.1 l.buffered (sym l.invariant.first) c.in-Some.ensures.reads in
-    let r = reached (fixed c.args.frame.now.head.width) l.buffered c.in-Some.id b run.0 c.in-Some.ensures.reads run.2.passed (omega (arith, h.0, run.1)) in
-    let bits : c.in-Some-2.after - c.position.result ≡ run.0.position - b.position = omega (arith, c.position.ensures, run.1) in
-    let there : run.0 ≡ c.skip.new.self = r.1 ∙ ap (λ (n : ℕ). beyond b n) (sym bits) ∙ sym c.skip.ensures.skipped in
-    record {
-      gathers = subst (λ (x : BufferedBits). GathersTo g.G.Gatherer.gathered c.args.limits.now c.args.frame.now c.args.used.now c.args.buffered c.args.gatherer.now c.gather_as_bits.new.used x c.gather_as_bits.new.gatherer) there
-          (gathers_then g.G.Gatherer.gathered c.args.limits.now c.args.frame.now c.args.used.now c.args.buffered c.args.gatherer.now l.spent l.buffered l.gatherer c.gather_as_bits.new.used run.0 c.gather_as_bits.new.gatherer l.invariant.gathers run.2);
-      room = omega (arith, c.saturating_sub-room-in-Some-2.ensures, c.values-in-Some-2.ensures.values);
-      first = sym run.1 ∙ ap (λ (x : BufferedBits). x.position) there;
-      took = ([], c.truncate.ensures [] l.invariant.took.0 l.invariant.took.1 refl);
-    }
 
 pub overflow_add-spent : goal.overflow_add-spent
 overflow_add-spent g c =
     let l = c.loop-id in
     let f = c.args.frame.now in
     let b = c.record_id.new.buffered in
-    let left = subst (λ (found : Option ℕ). GathersFrom g.G.Gatherer.gathered c.args.limits.now f l.spent c.in-Some.id l.first b l.gatherer c.gather_as_bits.new.used found c.gather_as_bits.new.gatherer) c.in_default-2.is c.in_ok-after.ensures.gathers in
     let added = rw (c.all-definitions.ensures, l.invariant.first) at (c.in-Ok.ensures.adds [] (c.truncate.ensures [] l.invariant.took.0 l.invariant.took.1 refl)) in
     let read = added_behind (entry l.room l.buffered.position c.in-Some.id f.definitions) l.room (reader_at b) c.in-Ok.code (reader_at c.read_entry.new.bits) [] added.0 added.2 in
     let taken = subst (g.G.Values.ValueTaker.took c.read_entry.new.values) read.1 added.1 in
-    omega (arith, c.count-count.ensures read.0 taken, read.2.0, left.0, l.invariant.room, c.values.ensures.capped, l.auto.spent-fits)
+    omega (arith, c.count-count.ensures read.0 taken, read.2.0, l.invariant.room, c.values.ensures.capped, l.auto.spent-fits)
 
 pub returns-in_err-record-clause-took : goal.returns-in_err-record-clause-took
 returns-in_err-record-clause-took g c =
@@ -108,71 +60,52 @@ loop-id-preserved g c =
     let d = c.read_entry.new.bits in
     let id = c.in-Some.id in
     let code = c.in-Ok.code in
-    let h = c.gather_as_bits.new.gatherer in
-    let left = subst (λ (found : Option ℕ). GathersFrom g.G.Gatherer.gathered c.args.limits.now f l.spent id l.first b l.gatherer c.gather_as_bits.new.used found h) c.in_default-2.is c.in_ok-after.ensures.gathers in
-    let before = gathers_still g.G.Gatherer.gathered c.args.limits.now f c.args.used.now c.args.buffered c.args.gatherer.now l.spent l.buffered l.gatherer h l.invariant.gathers left.1 in
+    let h = l.gatherer in
+    let before = l.invariant.gathers in
     let added = rw (c.all-definitions.ensures, l.invariant.first) at (c.in-Ok.ensures.adds [] (c.truncate.ensures [] l.invariant.took.0 l.invariant.took.1 refl)) in
     let read = added_behind (entry l.room l.buffered.position id f.definitions) l.room (reader_at b) code (reader_at d) [] added.0 added.2 in
     let list : List ℕ = read.0 in
     let taken = subst (g.G.Values.ValueTaker.took c.read_entry.new.values) read.1 added.1 in
-    let more : c.gather_as_bits.new.used + c.count-count.result ≡ l.spent + length list = omega (arith, left.0, c.count-count.ensures list taken, read.2.0, c.values.ensures.capped, l.invariant.room) in
+    let more : l.spent + c.count-count.result ≡ l.spent + length list = omega (arith, c.count-count.ensures list taken, read.2.0, c.values.ensures.capped, l.invariant.room) in
     record {
-      gathers = gathers_more g.G.Gatherer.gathered c.args.limits.now f c.args.used.now c.args.buffered c.args.gatherer.now l.spent l.buffered h id code list d c.record.new.self (c.gather_as_bits.new.used + c.count-count.result) before more
+      gathers = gathers_more g.G.Gatherer.gathered c.args.limits.now f c.args.used.now c.args.buffered c.args.gatherer.now l.spent l.buffered h id code list d c.record.new.self (l.spent + c.count-count.result) before more
           (λ outer handed same.
           let room = ap (λ (u : ℕ). c.args.limits.now.values - u) same ∙ sym l.invariant.room in
           record_seen c.args.limits.now (frame_shown f) outer handed id code list l.buffered b d (ap info_shown c.requires.plain) c.in-Some.ensures.three c.in-Some.ensures.reads (rw room read.2.1))
           (subst (λ (n : ℕ). Gathers g.G.Gatherer.gathered h (record_of id list l.buffered.position (code, n)) c.record.new.self) c.position-after.ensures (subst (λ (n : ℕ). Gathers g.G.Gatherer.gathered h (record_of id list n (code, c.position-after.result)) c.record.new.self) l.invariant.first (c.in_ok-record.ensures.gathers list taken)));
-      room = omega (arith, c.saturating_sub-room-in-loop-id.ensures, l.invariant.room, left.0);
+      room = omega (arith, c.saturating_sub-room-in-loop-id.ensures, l.invariant.room);
       first = c.position-after.ensures;
       took = c.in_ok-record.ensures.took (list, taken);
     }
 
-pub returns-then-counts-clause-took : goal.returns-then-counts-clause-took
-returns-then-counts-clause-took g c =
+pub returns-then-passes-clause-took : goal.returns-then-passes-clause-took
+returns-then-passes-clause-took g c =
     let added = c.in-Ok.ensures.adds [] (c.truncate.ensures [] c.loop-id.invariant.took.0 c.loop-id.invariant.took.1 refl) in
     c.in_ok-record.ensures.took (added.0, added.1)
 
-pub returns-then-counts-clause-gathers : goal.returns-then-counts-clause-gathers
-returns-then-counts-clause-gathers g c =
+pub returns-then-passes-clause-gathers : goal.returns-then-passes-clause-gathers
+returns-then-passes-clause-gathers g c =
     let l = c.loop-id in
     let f = c.args.frame.now in
     let b = c.record_id.new.buffered in
     let d = c.read_entry.new.bits in
     let id = c.in-Some.id in
     let code = c.in-Ok.code in
-    let h = c.gather_as_bits.new.gatherer in
-    let left = subst (λ (found : Option ℕ). GathersFrom g.G.Gatherer.gathered c.args.limits.now f l.spent id l.first b l.gatherer c.gather_as_bits.new.used found h) c.in_default-2.is c.in_ok-after.ensures.gathers in
-    let before = gathers_still g.G.Gatherer.gathered c.args.limits.now f c.args.used.now c.args.buffered c.args.gatherer.now l.spent l.buffered l.gatherer h l.invariant.gathers left.1 in
+    let h = l.gatherer in
+    let before = l.invariant.gathers in
     let added = rw (c.all-definitions.ensures, l.invariant.first) at (c.in-Ok.ensures.adds [] (c.truncate.ensures [] l.invariant.took.0 l.invariant.took.1 refl)) in
     let read = added_behind (entry l.room l.buffered.position id f.definitions) l.room (reader_at b) code (reader_at d) [] added.0 added.2 in
     let list : List ℕ = read.0 in
     let taken = subst (g.G.Values.ValueTaker.took c.read_entry.new.values) read.1 added.1 in
-    let more : c.gather_as_bits.new.used + c.count-count.result ≡ l.spent + length list = omega (arith, left.0, c.count-count.ensures list taken, read.2.0, c.values.ensures.capped, l.invariant.room) in (
+    let more : l.spent + c.count-count.result ≡ l.spent + length list = omega (arith, c.count-count.ensures list taken, read.2.0, c.values.ensures.capped, l.invariant.room) in (
       d,
       sym c.position-after.ensures,
-      gathers_more g.G.Gatherer.gathered c.args.limits.now f c.args.used.now c.args.buffered c.args.gatherer.now l.spent l.buffered h id code list d c.record.new.self (c.gather_as_bits.new.used + c.count-count.result) before more
+      gathers_more g.G.Gatherer.gathered c.args.limits.now f c.args.used.now c.args.buffered c.args.gatherer.now l.spent l.buffered h id code list d c.record.new.self (l.spent + c.count-count.result) before more
           (λ outer handed same.
           let room = ap (λ (u : ℕ). c.args.limits.now.values - u) same ∙ sym l.invariant.room in
           record_seen c.args.limits.now (frame_shown f) outer handed id code list l.buffered b d (ap info_shown c.requires.plain) c.in-Some.ensures.three c.in-Some.ensures.reads (rw room read.2.1))
           (subst (λ (n : ℕ). Gathers g.G.Gatherer.gathered h (record_of id list l.buffered.position (code, n)) c.record.new.self) c.position-after.ensures (subst (λ (n : ℕ). Gathers g.G.Gatherer.gathered h (record_of id list n (code, c.position-after.result)) c.record.new.self) l.invariant.first (c.in_ok-record.ensures.gathers list taken))),
     )
-
-pub returns-in_default-read_entry-clause-gathers : goal.returns-in_default-read_entry-clause-gathers
-returns-in_default-read_entry-clause-gathers g c =
-    let l = c.loop-id in
-    let f = c.args.frame.now in
-    let h = c.gather_as_bits.new.gatherer in
-    let left = subst (λ (found : Option ℕ). GathersFrom g.G.Gatherer.gathered c.args.limits.now f l.spent c.in-Some.id l.first c.record_id.new.buffered l.gatherer c.gather_as_bits.new.used found h) c.in_default-2.is c.in_ok-after.ensures.gathers in (
-      l.buffered,
-      sym l.invariant.first,
-      subst (λ (n : ℕ). GathersTo g.G.Gatherer.gathered c.args.limits.now f c.args.used.now c.args.buffered c.args.gatherer.now n l.buffered h) (sym left.0) (gathers_still g.G.Gatherer.gathered c.args.limits.now f c.args.used.now c.args.buffered c.args.gatherer.now l.spent l.buffered l.gatherer h l.invariant.gathers left.1),
-    )
-
-pub returns-in_err-after-clause-stops : goal.returns-in_err-after-clause-stops
-returns-in_err-after-clause-stops g c =
-    let l = c.loop-id in
-    let p = err_from_is_err_and c.from_residual.result c.from_residual.ensures.1 in
-    rw p.1 (stop_later g.G.Gatherer.gathered g.G.Gatherer.fails c.args.limits.now c.args.frame.now c.args.used.now c.args.buffered c.args.gatherer.now l.spent l.buffered l.gatherer c.gather_as_bits.new.gatherer l.invariant.gathers (c.in_err-after.ensures.stops l.buffered (sym l.invariant.first) c.in-Some.ensures.reads))
 
 pub returns-in_err-record-clause-stops : goal.returns-in_err-record-clause-stops
 returns-in_err-record-clause-stops g c =
@@ -182,14 +115,13 @@ returns-in_err-record-clause-stops g c =
     let d = c.read_entry.new.bits in
     let id = c.in-Some.id in
     let code = c.in-Ok.code in
-    let h = c.gather_as_bits.new.gatherer in
-    let left = subst (λ (found : Option ℕ). GathersFrom g.G.Gatherer.gathered c.args.limits.now f l.spent id l.first b l.gatherer c.gather_as_bits.new.used found h) c.in_default-2.is c.in_ok-after.ensures.gathers in
-    let before = gathers_still g.G.Gatherer.gathered c.args.limits.now f c.args.used.now c.args.buffered c.args.gatherer.now l.spent l.buffered l.gatherer h l.invariant.gathers left.1 in
+    let h = l.gatherer in
+    let before = l.invariant.gathers in
     let added = rw (c.all-definitions.ensures, l.invariant.first) at (c.in-Ok.ensures.adds [] (c.truncate.ensures [] l.invariant.took.0 l.invariant.took.1 refl)) in
     let read = added_behind (entry l.room l.buffered.position id f.definitions) l.room (reader_at b) code (reader_at d) [] added.0 added.2 in
     let list : List ℕ = read.0 in
     let taken = subst (g.G.Values.ValueTaker.took c.read_entry.new.values) read.1 added.1 in
-    let p = err_from_is_err_and c.from_residual-in_err-record.result c.from_residual-in_err-record.ensures.1 in
+    let p = err_from_is_err_and c.from_residual.result c.from_residual.ensures.1 in
     rw p.1 (stop_later g.G.Gatherer.gathered g.G.Gatherer.fails c.args.limits.now f c.args.used.now c.args.buffered c.args.gatherer.now l.spent l.buffered h c.record.new.self before
     (stop_record g.G.Gatherer.gathered g.G.Gatherer.fails c.args.limits.now f l.spent l.buffered h c.record.new.self id code list d
     (λ outer handed same.

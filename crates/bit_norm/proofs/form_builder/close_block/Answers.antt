@@ -1,5 +1,4 @@
 use Rattle.std.proofs.Common.{◌≡◌, ℕ, ◌+◌, ◌*◌, ◌-◌, ◌/◌, Bool, List, ◌++◌, length, refl, ap, ◌∙◌, arith, length-append}
-use Rattle.std.proofs.lemmas.Result.{on_ok_weaker}
 use Rattle.bit_grammar.specs.Normal.{end_text}
 use Rattle.bit_fields.specs.Texts.{with_word}
 use Rattle.bit_norm.proofs.Building.{end_parts}
@@ -13,6 +12,5 @@ returns c =
     let text = c.args.text.now in
     let end = end_text (length text) in
     let whole : c.pad.new.self ≡ text ++ end = end_parts text c.fixed.new.self c.pad.new.self c.in_ok-fixed.ensures c.in_ok-pad.ensures in
-    on_ok_weaker c.set_word.result
-    (λ put words counted. put ∙ ap (λ (n : ℕ). with_word c.args.hole n c.pad.new.self) (counted_words c.len.result (length text + length end) c.args.hole words _ (c.len.ensures ∙ ap length whole ∙ length-append text end) counted refl) ∙ ap (λ (s : List Bool). with_word c.args.hole words s) whole)
-    c.set_word.ensures
+    λ words counted.
+    c.set_word.ensures ∙ ap (λ (n : ℕ). with_word c.args.hole n c.pad.new.self) (counted_words c.len.result (length text + length end) c.args.hole words _ (c.len.ensures ∙ ap length whole ∙ length-append text end) counted refl) ∙ ap (λ (s : List Bool). with_word c.args.hole words s) whole

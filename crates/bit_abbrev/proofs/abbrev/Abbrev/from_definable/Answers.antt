@@ -2,8 +2,15 @@ use Rattle.std.proofs.Common.{sym, ◌∙◌}
 use Rattle.bit_abbrev.proofs.Shapes.{lawful_of}
 use Rattle.bit_abbrev.proofs.abbrev.Abbrev.from_definable.Goals as goal
 
+pub layout_of-layout-requires-clause-tail : goal.layout_of-layout-requires-clause-tail
+layout_of-layout-requires-clause-tail c = λ yes.
+    let usable = rw c.as_slice.ensures at c.has_shape-usable.ensures in
+    let tail = rw c.as_slice-2.ensures at c.tail_of-tail.ensures in
+    rw c.as_slice-3.ensures (tail (lawful_of c.args.ops.items c.requires (sym usable ∙ yes)))
+
 pub invariant_of-result : goal.invariant_of-result
 invariant_of-result c =
     let usable = rw c.as_slice.ensures at c.has_shape-usable.ensures in
     let tail = rw c.as_slice-2.ensures at c.tail_of-tail.ensures in
-    (c.requires, usable, λ yes. tail (lawful_of c.args.ops.items c.requires (sym usable ∙ yes)))
+    let layout = rw c.as_slice-3.ensures at c.layout_of-layout.ensures in
+    (c.requires, usable, λ yes. tail (lawful_of c.args.ops.items c.requires (sym usable ∙ yes)), layout)

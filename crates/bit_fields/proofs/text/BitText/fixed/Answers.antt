@@ -1,14 +1,21 @@
-use Rattle.std.proofs.Common.{◌≡◌, ◌^◌, ◌<◌, ◌≤◌, ℕ, Bool, List, ◌++◌, length, Result, Ok, Err, ap, arith, length-append}
-use Rattle.std.specs.Prelude.{OnOk, OnErr}
+use Rattle.std.proofs.Common.{◌≡◌, ◌<◌, ◌+◌, ◌^◌, ℕ, length, subst, arith}
 use Rattle.bit_grammar.specs.Bits.{bits_of}
 use Rattle.bit_grammar.proofs.Bits.Numbers.{length-bits_of}
-use Rattle.bit_fields.specs.Texts.{bits_of_words}
+use Rattle.bit_fields.specs.Pens.{Puts}
+use Rattle.bit_fields.proofs.Texts.{stored_text, stored_fits}
 use Rattle.bit_fields.proofs.text.BitText.fixed.Goals as goal
 
-few_more : {A : Type 0} (answer : Result (Unit {0}) A) (old new : List Bool) (n value : ℕ) → OnOk answer (new ≡ old ++ bits_of n value) → OnErr answer (new ≡ old) → length old < 2 ^ 63 → n ≤ 32 → length new < 2 ^ 64
-few_more (Ok _) old new n value ok err few some = omega (arith, few, some, ap length ok, length-append old (bits_of n value), length-bits_of n value)
-few_more (Err e) old new n value ok err few some = omega (arith, few, ap length err)
+pub invariant_of-self-2 : goal.invariant_of-self-2
+invariant_of-self-2 c =
+    let b = c.make_room.new.self in
+    let more = bits_of c.args.n c.args.value in
+    let p = subst (λ (k : ℕ). Puts (bits_of k c.args.value) b.at c.as_mut_slice.result.now c.put-self-inside.result c.put-self-inside.new.bytes) c.from.ensures c.put-self-inside.ensures in
+    let s = stored_text b.full.items b.last.items c.as_mut_slice.result.now c.put-self-inside.new.bytes b.at c.put-self-inside.result b.last.len 64 more _ c.args.self.now c.make_room.ensures.is c.in_ok-make_room.ensures.room (omega (arith, b.last.ok.0)) c.as_mut_slice.ensures.value p c.in_ok-make_room.ensures.same c.self.view_is in
+    (s.0, stored_fits _ c.args.self.now more 18446744073709551616 s.1 (omega (arith, c.requires.room, c.requires.few, length-bits_of c.args.n c.args.value)))
 
-pub invariant_of-self : goal.invariant_of-self
-invariant_of-self c =
-    few_more c.add_field.result (bits_of_words c.self.inside.words ++ c.self.inside.window) _ c.args.n c.args.value c.add_field.ensures.ok c.add_field.ensures.err (omega (arith, c.requires.room, ap length c.self.view_is)) c.requires.few
+pub returns : goal.returns
+returns c =
+    let b = c.make_room.new.self in
+    let more = bits_of c.args.n c.args.value in
+    let p = subst (λ (k : ℕ). Puts (bits_of k c.args.value) b.at c.as_mut_slice.result.now c.put-self-inside.result c.put-self-inside.new.bytes) c.from.ensures c.put-self-inside.ensures in
+    (stored_text b.full.items b.last.items c.as_mut_slice.result.now c.put-self-inside.new.bytes b.at c.put-self-inside.result b.last.len 64 more _ c.args.self.now c.make_room.ensures.is c.in_ok-make_room.ensures.room (omega (arith, b.last.ok.0)) c.as_mut_slice.ensures.value p c.in_ok-make_room.ensures.same c.self.view_is).1

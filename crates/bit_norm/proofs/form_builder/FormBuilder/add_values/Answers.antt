@@ -20,7 +20,7 @@ returns-then-is_long c =
 pub returns-then-values-le-PIECE : goal.returns-then-values-le-PIECE
 returns-then-values-le-PIECE c =
     let old = c.args.self.now in
-    let new : FormBuilder = record { alloc = old.alloc; standing = old.standing; limits = old.limits; text = c.add_short_record.new.text; holes = old.holes; long = old.long; vain = old.vain } in
+    let new : FormBuilder = record { alloc = old.alloc; standing = old.standing; limits = old.limits; text = c.add_short_record.new.text; holes = old.holes; long = old.long } in
     on_ok_weaker c.add_short_record.result
     (λ added. record_added c.args.code c.args.values.now old new (c.is_idle.ensures.short c.if-is_idle.false) (c.is_idle.ensures.inside c.if-is_idle.false) (refl, refl) refl refl added)
     c.add_short_record.ensures
@@ -28,7 +28,7 @@ returns-then-values-le-PIECE c =
 pub returns-then-branch : goal.returns-then-branch
 returns-then-branch c =
     let old = c.args.self.now in
-    let new : FormBuilder = record { alloc = old.alloc; standing = old.standing; limits = old.limits; text = c.add_pieces.new.text; holes = old.holes; long = old.long; vain = old.vain } in
+    let new : FormBuilder = record { alloc = old.alloc; standing = old.standing; limits = old.limits; text = c.add_pieces.new.text; holes = old.holes; long = old.long } in
     let added = subst (λ (whole : Bool). GrowsTo (old.text ++ record_text c.args.code c.args.values.now (length old.text)) old.limits.bytes whole new.text) c.if-branch.true c.in_ok-add_pieces.ensures in
     record_added c.args.code c.args.values.now old new (c.is_idle.ensures.short c.if-is_idle.false) (c.is_idle.ensures.inside c.if-is_idle.false) (refl, refl) refl refl added
 

@@ -23,5 +23,5 @@ pub returns-clause-gathers : goal.returns-clause-gathers
 returns-clause-gathers c = λ first done deepest was stands.
     let old = c.args.self.now in
     let opened : Opened = record { id = c.args.id; width = c.args._width; first = c.args._first; body = c.args._body } in
-    let new : FormBuilder = record { alloc = old.alloc; standing = c.enter.new.self; limits = old.limits; text = old.text; holes = old.holes; long = old.long; vain = old.vain } in
+    let new : FormBuilder = record { alloc = old.alloc; standing = c.enter.new.self; limits = old.limits; text = old.text; holes = old.holes; long = old.long } in
     event_left_out first old new done (enters opened) was c.if-self.false (sym c.in_ok-enter.ensures.left ∙ c.if-branch.false) c.in_ok-enter.ensures.ids refl was.form

@@ -21,5 +21,5 @@ returns-then-leave-clause-gathers c =
 pub returns-clause-gathers : goal.returns-clause-gathers
 returns-clause-gathers c = λ first done deepest was stands.
     let old = c.args.self.now in
-    let new : FormBuilder = record { alloc = old.alloc; standing = c.leave.new.self; limits = old.limits; text = old.text; holes = old.holes; long = old.long; vain = old.vain } in
+    let new : FormBuilder = record { alloc = old.alloc; standing = c.leave.new.self; limits = old.limits; text = old.text; holes = old.holes; long = old.long } in
     event_left_out first old new done (leaves c.args._after) was c.if-self.false (sym c.leave.ensures.left ∙ c.if-leave.false) (c.leave.ensures.ids c.args._after) refl was.form

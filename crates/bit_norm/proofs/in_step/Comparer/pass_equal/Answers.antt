@@ -4,7 +4,7 @@ use Rattle.bit_norm.proofs.PassedRecords.{passed_counted}
 use Rattle.bit_norm.proofs.in_step.Comparer.pass_equal.Goals as goal
 
 pub returns : goal.returns
-returns c =
+returns c = λ definitions are.
     let was = c.self.inside in
     let before : Comparing = record {
       compared = record { first = was.first; first_blocks = was.first_blocks; second_blocks = was.second_blocks; within = was.walk.«open».items; items = was.walk.items; first_ended = was.first_ended; second_ended = was.second_ended; found = was.found };
@@ -12,14 +12,14 @@ returns c =
       whole = was.is_whole;
       passed = was.passed;
     } in
-    let last = c.pass_records.new.counter in (
+    let last = c.pass_records.new.counter in
+    let passed = c.in_ok-run.ensures.passes definitions are in (
       c.in_ok-run.ensures.less,
-      λ definitions are.
-          let passed = c.in_ok-run.ensures.passes definitions are in (
-            passed.0,
-            passed.2,
-            λ first done matches some.
-                passed_counted first before done passed.0 _ last passed.1 refl refl refl refl refl (subst (λ (s : Comparing). Matches first done s) (sym c.self.view_is) matches)
-                (subst (λ (s : Comparing). s.compared.found ≡ None) (sym c.self.view_is) c.requires.found) (subst (λ (s : Comparing). 0 < s.passed_to) (sym c.self.view_is) c.requires.some) some,
-          ),
+      (
+        passed.0,
+        passed.2,
+        λ first done matches some.
+            passed_counted first before done passed.0 _ last passed.1 refl refl refl refl refl (subst (λ (s : Comparing). Matches first done s) (sym c.self.view_is) matches)
+            (subst (λ (s : Comparing). s.compared.found ≡ None) (sym c.self.view_is) c.requires.found) (subst (λ (s : Comparing). 0 < s.passed_to) (sym c.self.view_is) c.requires.some) some,
+      ),
     )

@@ -15,7 +15,7 @@ returns-then-branch-clause-gathers c =
     let old = c.args.self.now in
     on_ok_weaker c.pass_enter.result
     (λ passes first done deepest was stands.
-    passed_at first old c.passes.new.self c.pass_enter.new.self done (enters o) c.in_ok-passes.field-0 was c.in_ok-passes.ensures c.if-branch.true (passes o refl refl) x
+    passed_at first old c.passes_event.new.self c.pass_enter.new.self done (enters o) c.in_ok-passes_event.field-0 was c.in_ok-passes_event.ensures c.if-branch.true (passes o refl refl) x
     (λ some kept. (left_says old.compared.second_blocks old.compared.second_ended (enters o) kept, begin_signed old.compared o kept)))
     c.pass_enter.ensures
 
@@ -32,7 +32,7 @@ returns-then-branch-2-clause-gathers c =
     on_ok_weaker c.take.result
     (λ takes first done deepest was stands.
     step_sign first mid c.take.new.self c.enter.new.self done (enters o) (record { sign = begins o.id; bit = o.first; ended = o.body })
-    (subst (λ (s : Comparing). AtStep first done (enters o) s) (sym c.self.view_is) (at_step first c.args.self.now c.passes.new.self done (enters o) c.in_ok-passes.field-0 was c.in_ok-passes.ensures c.if-branch.false c.ranges.body.fits))
+    (subst (λ (s : Comparing). AtStep first done (enters o) s) (sym c.self.view_is) (at_step first c.args.self.now c.passes_event.new.self done (enters o) c.in_ok-passes_event.field-0 was c.in_ok-passes_event.ensures c.if-branch.false c.ranges.body.fits))
     c.in_ok-enter.ensures.ids (begin_signed mid.compared o (sym c.in_ok-enter.ensures.left ∙ c.if-branch-2.true)) takes)
     c.take.ensures
 
@@ -48,5 +48,5 @@ returns-clause-gathers c =
     } in
     λ first done deepest was stands.
     step_left_out first mid c.enter.new.self done (enters o)
-    (subst (λ (s : Comparing). AtStep first done (enters o) s) (sym c.self.view_is) (at_step first c.args.self.now c.passes.new.self done (enters o) c.in_ok-passes.field-0 was c.in_ok-passes.ensures c.if-branch.false c.ranges.body.fits))
+    (subst (λ (s : Comparing). AtStep first done (enters o) s) (sym c.self.view_is) (at_step first c.args.self.now c.passes_event.new.self done (enters o) c.in_ok-passes_event.field-0 was c.in_ok-passes_event.ensures c.if-branch.false c.ranges.body.fits))
     c.in_ok-enter.ensures.ids (sym c.in_ok-enter.ensures.left ∙ c.if-branch-2.false)

@@ -13,7 +13,7 @@ returns-then-branch-clause-gathers c =
     let old = c.args.self.now in
     on_ok_weaker c.pass_leave.result
     (λ passes first done deepest was stands.
-    passed_at first old c.passes.new.self c.pass_leave.new.self done event c.in_ok-passes.field-0 was c.in_ok-passes.ensures c.if-branch.true passes (record { sign = ends; bit = old.compared.second_ended; ended = c.args.after })
+    passed_at first old c.passes_event.new.self c.pass_leave.new.self done event c.in_ok-passes_event.field-0 was c.in_ok-passes_event.ensures c.if-branch.true passes (record { sign = ends; bit = old.compared.second_ended; ended = c.args.after })
     (λ some kept. (left_says old.compared.second_blocks old.compared.second_ended event kept, end_signed old.compared c.args.after kept (some_open first old done c.args.after was some kept stands))))
     c.pass_leave.ensures
 
@@ -29,7 +29,7 @@ returns-then-leave-clause-gathers c =
     } in
     on_ok_weaker c.take.result
     (λ takes first done deepest was stands.
-    let at = subst (λ (s : Comparing). AtStep first done event s) (sym c.self.view_is) (at_step first c.args.self.now c.passes.new.self done event c.in_ok-passes.field-0 was c.in_ok-passes.ensures c.if-branch.false c.ranges.after.fits) in
+    let at = subst (λ (s : Comparing). AtStep first done event s) (sym c.self.view_is) (at_step first c.args.self.now c.passes_event.new.self done event c.in_ok-passes_event.field-0 was c.in_ok-passes_event.ensures c.if-branch.false c.ranges.after.fits) in
     let kept = sym c.leave.ensures.left ∙ c.if-leave.true in
     step_sign_open first mid c.take.new.self c.leave.new.self done c.args.after at (c.leave.ensures.ids c.args.after) kept stands takes)
     c.take.ensures
@@ -46,5 +46,5 @@ returns-clause-gathers c =
     } in
     λ first done deepest was stands.
     step_left_out first mid c.leave.new.self done event
-    (subst (λ (s : Comparing). AtStep first done event s) (sym c.self.view_is) (at_step first c.args.self.now c.passes.new.self done event c.in_ok-passes.field-0 was c.in_ok-passes.ensures c.if-branch.false c.ranges.after.fits))
+    (subst (λ (s : Comparing). AtStep first done event s) (sym c.self.view_is) (at_step first c.args.self.now c.passes_event.new.self done event c.in_ok-passes_event.field-0 was c.in_ok-passes_event.ensures c.if-branch.false c.ranges.after.fits))
     (c.leave.ensures.ids c.args.after) (sym c.leave.ensures.left ∙ c.if-leave.false)

@@ -1,0 +1,16 @@
+use Rattle.std.proofs.Common.{length, drop}
+use Rattle.bit_grammar.specs.Bits.{bits_of_bytes}
+use Rattle.bit_fields.proofs.Pens.{Filling, AreBytes}
+use Rattle.bit_fields.proofs.pen.put_bytes.Given as goal
+
+abbrev pub invariant-loop-rest : goal.invariant-loop-rest
+invariant-loop-rest l = record {
+  filling : Filling bits_of_bytes 8 64 l.at l.fn.bytes l.pen l.bytes l.values l.rest;
+  small : AreBytes l.rest;
+}
+
+abbrev pub decreases-loop-rest : goal.decreases-loop-rest
+decreases-loop-rest l = length l.rest
+
+abbrev pub invariant-loop-value : goal.invariant-loop-value
+invariant-loop-value l = Filling bits_of_bytes 8 64 l.at l.fn.bytes l.pen l.bytes l.values (drop l.value-index l.value-items)

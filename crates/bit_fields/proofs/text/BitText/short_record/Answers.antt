@@ -1,0 +1,20 @@
+use Rattle.std.proofs.Common.{◌<◌, ◌+◌, ◌*◌, ◌^◌, ◌++◌, length, arith}
+use Rattle.bit_grammar.specs.Bits.{bits_of}
+use Rattle.bit_grammar.specs.Normal.{entry_text}
+use Rattle.bit_fields.proofs.Texts.{stored_text, stored_fits}
+use Rattle.bit_fields.proofs.text.BitText.short_record.Goals as goal
+
+pub invariant_of-self-2 : goal.invariant_of-self-2
+invariant_of-self-2 c =
+    let b = c.make_room.new.self in
+    let p = c.put_record-self-inside in
+    let more = bits_of 2 3 ++ entry_text c.args.code c.args.values.now in
+    let s = stored_text b.full.items b.last.items c.as_mut_slice.result.now p.new.bytes b.at p.result b.last.len (78 * length c.args.values.now + 256) more _ c.args.self.now c.make_room.ensures.is c.in_ok-make_room.ensures.room (omega (arith, b.last.ok.0)) c.as_mut_slice.ensures.value p.ensures c.in_ok-make_room.ensures.same c.self.view_is in
+    (s.0, stored_fits _ c.args.self.now more 18446744073709551616 s.1 (omega (arith, c.requires.room)))
+
+pub returns : goal.returns
+returns c =
+    let b = c.make_room.new.self in
+    let p = c.put_record-self-inside in
+    let more = bits_of 2 3 ++ entry_text c.args.code c.args.values.now in
+    (stored_text b.full.items b.last.items c.as_mut_slice.result.now p.new.bytes b.at p.result b.last.len (78 * length c.args.values.now + 256) more _ c.args.self.now c.make_room.ensures.is c.in_ok-make_room.ensures.room (omega (arith, b.last.ok.0)) c.as_mut_slice.ensures.value p.ensures c.in_ok-make_room.ensures.same c.self.view_is).1
