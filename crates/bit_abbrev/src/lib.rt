@@ -14,6 +14,7 @@
 mod abbrev;
 mod bits;
 mod definition;
+mod few;
 mod groups;
 mod in_force;
 mod info;
@@ -35,6 +36,7 @@ pub use abbrev::{Abbrev, BadAbbrev, Ops};
 pub use bit_grammar::Op;
 pub use bits::{Bits, NotBuffered};
 pub use definition::read_define;
+pub use few::{FEW, FewValues, pass_by, read_few};
 pub use groups::Planning;
 pub use in_force::{Definitions, InForce, Lookup, SharedInfo};
 pub use info::InfoTable;

@@ -7,7 +7,7 @@ ghost use Rattle.bit_events.specs.MachineView.{TookSome};
 ghost use Rattle.bit_events.specs.Passing.{PassesRun};
 
 use crate::passing::PassedRun;
-use bit_abbrev::{Abbrev, Definitions, InForce, Plan};
+use bit_abbrev::{Abbrev, Definitions, InForce, Layout, Plan};
 use bit_fields::{PlacedBits, ValueTaker};
 use std::alloc::AllocError;
 
@@ -88,10 +88,16 @@ pub trait Gatherer {
 
     /// Whether `pass` may gather a record with this id. These definitions are in force, and the first `planned` of them have plans.
     #[inline(always)]
-    fn may_pass(&self, id: u32, _definitions: &Definitions<'_>, planned: usize) -> bool
+    fn may_pass(&self, id: u32, definitions: &Definitions<'_>, _planned: usize) -> bool
         requires { 3 ≤ id }
     {
-        (id - 3) as usize <= planned
+        if id == 3 {
+            return true;
+        }
+        match definitions.get((id - 4) as usize) {
+            Some(abbrev) => abbrev.layout() != Layout::Odd,
+            None => false,
+        }
     }
 
     /// Gathers records of the innermost block which come first in these bits: as many as it likes. Their ids have this width, and the
@@ -112,6 +118,32 @@ pub trait Gatherer {
         ensures fails { OnErr result (fails self.old None self.new) }
     {
         Ok(PassedRun::none(bits, room))
+    }
+
+    /// Whether records of few values are given to `few`.
+    #[inline(always)]
+    fn takes_few(&self) -> bool {
+        true
+    }
+
+    /// Takes a record of few values.
+    #[inline(always)]
+    fn few(
+        &mut self,
+        id: u32,
+        code: u64,
+        few: &[u64],
+        values: &mut Self::Values,
+        first: u64,
+        after: u64,
+    ) -> Result<(), AllocError> {
+        values.truncate(0);
+        for value in few {
+            if values.take(*value).is_err() {
+                return Err(AllocError);
+            }
+        }
+        self.record(id, code, values, first, after)
     }
 
     /// Takes the end of the innermost block: the bit after it.

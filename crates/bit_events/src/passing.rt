@@ -9,7 +9,7 @@ ghost use Rattle.bit_fields.specs.PlacedView.{placed};
 ghost use Rattle.bit_abbrev.specs.Plans.{ArePlans, PassesOver};
 ghost use Rattle.bit_events.specs.Passing.{CountsOne, PassesRecords, mark_of};
 
-use bit_abbrev::{MARGIN, Passed, Plan, pass_plain};
+use bit_abbrev::{InForce, MARGIN, Passed, Plan, pass_by, pass_plain};
 use bit_fields::PlacedBits;
 use std::alloc::AllocError;
 
@@ -97,7 +97,7 @@ fn pass_one(bits: PlacedBits<'_>, width: u32, id: u64, plans: &[Plan], room: u64
 /// Passes over records with abbreviation ids of a width, as long as they are not odd and a margin of bits is there. They have at most
 /// `room` values.
 #[inline(never)]
-pub fn pass_records<C: RunCounter>(
+fn pass_planned<C: RunCounter>(
     bits: PlacedBits<'_>,
     width: u32,
     plans: &[Plan],
@@ -149,4 +149,76 @@ pub fn pass_records<C: RunCounter>(
         room,
         is_over,
     })
+}
+
+/// Passes over records by their operands.
+#[inline(never)]
+fn pass_unplanned<C: RunCounter>(
+    bits: PlacedBits<'_>,
+    width: u32,
+    definitions: &InForce,
+    room: u64,
+    counter: &mut C,
+) -> Result<PassedRun, AllocError> {
+    let mut bits = bits;
+    let mut room = room;
+    let mut is_over = false;
+    let all = definitions.all();
+    while bits.has(MARGIN) {
+        let id = bits.fixed(width);
+        if id < 3 {
+            is_over = true;
+            break;
+        }
+        let fields = bits.after(u64::from(width));
+        let passed = if id == 3 {
+            pass_plain(fields.load())
+        } else {
+            match all.get((id - 4) as usize) {
+                Some(abbrev) => pass_by(fields, abbrev, room),
+                None => None,
+            }
+        };
+        let Some(passed) = passed else {
+            break;
+        };
+        if passed.count > room {
+            break;
+        }
+        let after = bits.after(u64::from(width) + passed.len);
+        let counts = counter.count(CountedRecord {
+            id,
+            code: passed.code,
+            count: passed.count,
+            first: bits.position(),
+            after: after.position(),
+        })?;
+        if !counts {
+            break;
+        }
+        room -= passed.count;
+        bits = after;
+    }
+    Ok(PassedRun {
+        after: bits.position(),
+        room,
+        is_over,
+    })
+}
+
+/// Passes over records.
+#[inline(always)]
+pub fn pass_records<C: RunCounter>(
+    bits: PlacedBits<'_>,
+    width: u32,
+    plans: &[Plan],
+    definitions: &InForce,
+    room: u64,
+    counter: &mut C,
+) -> Result<PassedRun, AllocError> {
+    let run = pass_planned(bits, width, plans, room, counter)?;
+    if run.is_over {
+        return Ok(run);
+    }
+    pass_unplanned(bits.after(run.after - bits.position()), width, definitions, run.room, counter)
 }

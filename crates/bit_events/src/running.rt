@@ -18,7 +18,7 @@ ghost use Rattle.bit_events.specs.Runs.{AddsBehind, GathersRun, ReadsTo, SeesRec
 use crate::entry::read_entry;
 use crate::frame::Frame;
 use crate::gatherer::Gatherer;
-use bit_abbrev::{Definitions, InForce, Lookup, MARGIN, Plan};
+use bit_abbrev::{Definitions, FEW, InForce, Layout, Lookup, MARGIN, Plan, read_few};
 use bit_fields::{Buffered, BufferedParts, FieldWidth, Limits, PlacedBits, ValueTaker};
 use std::alloc::AllocError;
 
@@ -138,7 +138,8 @@ fn gather_odd<G: Gatherer>(
                 is_over: true,
             });
         };
-        if passes && gatherer.may_pass(id, &definitions, planned) {
+        let may = if gatherer.passes() { gatherer.may_pass(id, &definitions, planned) } else { gatherer.takes_few() && may_be_few(id, &definitions) };
+        if passes && may {
             *used = spent;
             return Ok(GatheredRun {
                 after: first,
@@ -182,6 +183,54 @@ pub(crate) fn loaded_at(first: u64, loaded: u64) -> u64 {
     (first & !7).wrapping_add(64)
 }
 
+#[inline(always)]
+fn may_be_few(id: u32, definitions: &Definitions<'_>) -> bool {
+    if id == 3 {
+        return true;
+    }
+    match definitions.get((id - 4) as usize) {
+        Some(abbrev) => abbrev.layout() != Layout::Odd,
+        None => false,
+    }
+}
+
+/// Gathers records of few values.
+#[inline(never)]
+fn gather_few<G: Gatherer>(
+    bits: PlacedBits<'_>,
+    frame: &Frame,
+    room: &mut u64,
+    gatherer: &mut G,
+    values: &mut G::Values,
+) -> Result<GatheredRun, AllocError> {
+    let mut few = [0; FEW];
+    let width = u32::from(frame.head.width);
+    let definitions = frame.definitions.all();
+    let (bytes, start, at) = bits.parts();
+    let mut at = at;
+    let mut left = *room;
+    let mut is_over = false;
+    loop {
+        let bits = PlacedBits::of(bytes, start, at);
+        if !bits.has(MARGIN) {
+            break;
+        }
+        let id = bits.fixed(width);
+        if id < 3 {
+            is_over = true;
+            break;
+        }
+        let Some(read) = read_few(bits.after(u64::from(width)), id, &definitions, left, &mut few) else {
+            break;
+        };
+        gatherer.few(id as u32, read.code, &few[..read.count as usize], values, bits.position(), read.after)?;
+        left -= read.count;
+        at = read.after - start;
+    }
+    *room = left;
+    Ok(GatheredRun { after: start + at, is_over })
+}
+
 /// Lets the gatherer pass over records from a bit on, if the bits are there as bytes.
 #[inline(always)]
 fn pass_placed<G: Gatherer>(
@@ -192,6 +241,7 @@ fn pass_placed<G: Gatherer>(
     limits: &Limits,
     used: &mut u64,
     gatherer: &mut G,
+    values: &mut G::Values,
 ) -> Result<GatheredRun, AllocError>
     requires lawful { AreParts parts }
     requires least { (bits_of_parts parts).position ≤ first }
@@ -212,6 +262,15 @@ fn pass_placed<G: Gatherer>(
         });
     };
     let room = limits.values().saturating_sub(*used);
+    if !gatherer.passes() && !gatherer.takes_few() {
+        return Ok(GatheredRun { after: first, is_over: false });
+    }
+    if !gatherer.passes() {
+        let mut left = room;
+        let run = gather_few(bits, frame, &mut left, gatherer, values)?;
+        *used += room - left;
+        return Ok(run);
+    }
     let run = gatherer.pass(
         bits,
         u32::from(frame.head.width),
@@ -322,7 +381,7 @@ pub(crate) fn count_records<G: Gatherer>(
         gatherer.old gatherer.new) }
 {
     let plans = frame.definitions.plans();
-    let run = pass_placed(parts, start, frame, plans, limits, used, gatherer)?;
+    let run = pass_placed(parts, start, frame, plans, limits, used, gatherer, values)?;
     if run.is_over {
         return Ok(run.after);
     }
@@ -365,10 +424,10 @@ fn count_on<G: Gatherer>(
         let buffered = buffered_from(parts, first, window);
         let run = gather_odd(buffered, frame, limits, used, gatherer, values)?;
         first = run.after;
-        if run.is_over || !gatherer.passes() {
+        if run.is_over {
             return Ok(first);
         }
-        let run = pass_placed(parts, first, frame, plans, limits, used, gatherer)?;
+        let run = pass_placed(parts, first, frame, plans, limits, used, gatherer, values)?;
         first = run.after;
         if run.is_over {
             return Ok(first);
@@ -401,11 +460,7 @@ fn gather_turn<G: Gatherer>(
         (beyond (bits_of_parts parts.entry) (start - (bits_of_parts parts.entry).position))
         gatherer.old gatherer.new) }
 {
-    if gatherer.passes() {
-        return count_records(parts, start, loaded, frame, limits, used, gatherer, values);
-    }
-    let buffered = buffered_from(parts, start, loaded);
-    gather_records(buffered, frame, limits, used, gatherer, values)
+    count_records(parts, start, loaded, frame, limits, used, gatherer, values)
 }
 
 /// Gathers all such records. Where the gatherer begins or ends to pass over records, it goes on: an exact reader takes these bits when

@@ -9,6 +9,7 @@ ghost use Rattle.bit_fields.specs.Placed.{AreTops, Shows, bits_at};
 mod bits;
 mod loads;
 mod numbers;
+mod values;
 mod tops;
 
 /// Buffered bits of a stream, from a position on.

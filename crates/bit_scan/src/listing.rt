@@ -153,6 +153,16 @@ fn write_record<K: Sink>(
     write_record_pieces(printer, around, code, values)
 }
 
+/// Writes the line of a record of few values.
+fn write_few<K: Sink>(printer: &mut Printer<K>, around: u32, code: u64, few: &[u64]) -> Result<(), Fault> {
+    if printer.record_line(around, code, few)? {
+        return Ok(());
+    }
+    printer.record_head(around, code)?;
+    write_numbers(printer, few)?;
+    printer.line_end()
+}
+
 /// Writes the line of an event with `around` blocks around it, if it has one.
 #[inline(always)]
 fn write_event<K: Sink>(
@@ -295,6 +305,15 @@ impl<'a, K: Sink> Gatherer for ListingWriter<'a, K> {
     ) -> Result<(), AllocError> {
         if self.standing.leaves_record(code) {
             let done = write_record(&mut self.printer, self.around, code, values);
+            return kept(&mut self.stopped, done);
+        }
+        Ok(())
+    }
+
+    #[inline(always)]
+    fn few(&mut self, _id: u32, code: u64, few: &[u64], _values: &mut PackedValues, _first: u64, _after: u64) -> Result<(), AllocError> {
+        if self.standing.leaves_record(code) {
+            let done = write_few(&mut self.printer, self.around, code, few);
             return kept(&mut self.stopped, done);
         }
         Ok(())

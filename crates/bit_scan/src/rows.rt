@@ -14,7 +14,7 @@ ghost use Rattle.bit_events.specs.Passing.{PassesRecords};
 ghost use Rattle.bit_scan.specs.Rows.{block_tally, block_tallies, rows_after, AddsToRow, CountsInRow};
 
 use crate::links::{Keyed, Spot, find, is_at, lead};
-use bit_abbrev::Plan;
+use bit_abbrev::{InForce, Plan};
 use bit_events::{CountedRecord, PassedRun, RunCounter, pass_records};
 use bit_fields::PlacedBits;
 use std::alloc::{AllocError, Global};
@@ -301,6 +301,7 @@ impl BlockRow {
         bits: PlacedBits<'_>,
         width: u32,
         plans: &[Plan],
+        definitions: &InForce,
         room: u64,
     ) -> Result<PassedRun, AllocError>
         requires { width ≤ 32 }
@@ -311,7 +312,7 @@ impl BlockRow {
             × PassesRecords width definitions room (placed bits.entry) records run) }
     {
         let mut counter = RowCounter { row: self, places };
-        pass_records(bits, width, plans, room, &mut counter)
+        pass_records(bits, width, plans, definitions, room, &mut counter)
     }
 }
 
@@ -353,6 +354,7 @@ fn pass_at(
     bits: PlacedBits<'_>,
     width: u32,
     plans: &[Plan],
+    definitions: &InForce,
     room: u64,
 ) -> Result<PassedRun, AllocError>
     requires within { place < length rows.old }
@@ -368,7 +370,7 @@ fn pass_at(
         → block_tallies rows.new ≡ cut_rows (rows_after records id tallies))) }
 {
     let (_, row) = &mut rows[place];
-    row.pass(&mut places[place % 32], bits, width, plans, room)
+    row.pass(&mut places[place % 32], bits, width, plans, definitions, room)
 }
 
 /// Begins the row of an id that has none, at the end, with what an event adds, and returns its place.
@@ -478,6 +480,7 @@ impl BlockRows {
         bits: PlacedBits<'_>,
         width: u32,
         plans: &[Plan],
+        definitions: &InForce,
         room: u64,
     ) -> Result<PassedRun, AllocError>
         requires { width ≤ 32 }
@@ -498,6 +501,7 @@ impl BlockRows {
             bits,
             width,
             plans,
+            definitions,
             room,
         )
     }

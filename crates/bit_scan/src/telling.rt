@@ -21,7 +21,7 @@ use crate::printer::Printer;
 use crate::record_lines::{Noted, Opened};
 use bit_abbrev::Abbrev;
 use bit_events::{Event, Gatherer, PackedEvent, PackedEvents};
-use bit_fields::{Fault, Head, Limits, PackedValues, Reason, Sink, Source, WideSlice};
+use bit_fields::{Fault, Head, Limits, PackedValues, Reason, Sink, Source, ValueTaker, WideSlice};
 use bit_grammar::{Op, ValueDisplay};
 use std::alloc::{AllocError, Global};
 
@@ -603,6 +603,35 @@ impl<K: Sink> Gatherer for EventWriter<K> {
             first,
             after,
         })
+    }
+
+    #[inline(always)]
+    fn few(&mut self, id: u32, code: u64, few: &[u64], values: &mut PackedValues, first: u64, after: u64) -> Result<(), AllocError> {
+        let noted = Noted { first, code, abbreviation: id, count: few.len() as u64 };
+        let is_added = match (self.style.format, self.style.values) {
+            (Format::Text, ValueDisplay::Shown) => self.printer.noted_record(self.around, noted, few),
+            (Format::Text, ValueDisplay::LeftOut) => self.printer.noted_record(self.around, noted, &[]),
+            (Format::JsonLines, ValueDisplay::Shown) => self.printer.json_record(self.around, noted, few),
+            (Format::JsonLines, ValueDisplay::LeftOut) => match self.printer.noted_line(self.around, noted) {
+                Ok(()) => Ok(true),
+                Err(fault) => Err(fault),
+            },
+        };
+        match is_added {
+            Ok(true) => return Ok(()),
+            Ok(false) => {}
+            Err(fault) => {
+                self.stopped = Some(fault);
+                return Err(AllocError);
+            }
+        }
+        values.truncate(0);
+        for value in few {
+            if values.take(*value).is_err() {
+                return Err(AllocError);
+            }
+        }
+        self.record(id, code, values, first, after)
     }
 
     fn leave(&mut self, after: u64) -> Result<(), AllocError> {
