@@ -1,13 +1,10 @@
 //! The table that blocks share, and the definitions in force in a block.
 
-ghost use Rattle.std.specs.Prelude.{◌≡◌, ◌-◌, ◌++◌, [], ◌∷◌, IfOk, OnOk, OnErr, length, slice_get};
-ghost use Rattle.std.specs.Option.{option_copied};
-ghost use Rattle.bit_abbrev.specs.Plans.{ArePlans};
-ghost use Rattle.bit_abbrev.specs.Table.{definitions_at};
-
+use crate::held::HeldList;
+use crate::info::has_room;
 use crate::{Abbrev, InfoTable, Plan};
 use std::alloc::{AllocError, Global};
-use std::marker::Model;
+use std::boxed::Box;
 use std::rc::Rc;
 
 /// A finished table. The blocks that are entered under it share it.
@@ -16,129 +13,80 @@ pub struct SharedInfo {
     table: Option<Rc<InfoTable>>,
 }
 
-impl Model for SharedInfo {
-    ghost use Rattle.std.specs.Prelude.{ℕ, List};
-    ghost use Rattle.bit_grammar.specs.declared.op.Op.{Op};
-
-    ghost Value = { List (ℕ × List (List Op)) };
-
-    ghost use Rattle.std.specs.Prelude.{[]};
-    ghost use Rattle.std.specs.Option.{option_map_or};
-
-    ghost view = { λ shared. option_map_or (λ rc. rc.value) shared.table [] };
-}
-
 impl SharedInfo {
-    /// A table without definitions. It allocates nothing.
-    pub fn new() -> SharedInfo
-        ensures { result ≡ [] }
-    {
+    pub fn new() -> SharedInfo {
         SharedInfo { table: None }
     }
 
-    /// Shares a finished table. If an allocation fails, the table is dropped.
-    pub fn share(alloc: Global, table: InfoTable) -> Result<SharedInfo, AllocError>
-        ensures { IfOk result (λ shared. shared ≡ table) }
-    {
+    pub fn share(alloc: Global, table: InfoTable) -> Result<SharedInfo, AllocError> {
+        let mut table = table;
+        table.finish()?;
         let table = Rc::new(alloc, table)?;
         Ok(SharedInfo { table: Some(table) })
     }
 
-    /// The definitions in force at the beginning of a block with this id. Fails only if the table has some for the id and its
-    /// reference count is exhausted.
-    pub fn enter(&self, alloc: Global, id: u32) -> Result<InForce, AllocError>
-        ensures ok { IfOk result (λ definitions. definitions ≡ definitions_at self.now id) }
-    {
+    pub fn enter(&self, alloc: Global, id: u32) -> Result<InForce, AllocError> {
         let own = Vec::new(alloc);
         let Some(table) = &self.table else {
-            return Ok(InForce { shared: None, own });
+            return Ok(InForce { alloc, shared: None, own, later: None });
         };
-        if table.for_block(id).is_empty() {
-            return Ok(InForce { shared: None, own });
+        if table.count_for(id) == 0 {
+            return Ok(InForce { alloc, shared: None, own, later: None });
         }
-        Ok(InForce {
-            shared: Some((table.clone()?, id)),
-            own,
-        })
+        Ok(InForce { alloc, shared: Some((table.clone()?, id)), own, later: None })
     }
+}
+
+/// The definitions of a block that are not ready, and one of those in force that is not.
+#[derive(Drop)]
+struct Later {
+    list: HeldList,
+    found: Option<(usize, Abbrev)>,
 }
 
 /// The definitions in force in a block: first those of the table, then the block's own.
 #[derive(Drop)]
 pub struct InForce {
-    /// The table, and the id of the block.
+    alloc: Global,
     shared: Option<(Rc<InfoTable>, u32)>,
+    /// The block's own definitions that are ready,
     own: Vec<Abbrev>,
+    /// and those after them.
+    later: Option<Box<Later>>,
 }
 
-impl Model for InForce {
-    ghost use Rattle.std.specs.Prelude.{List, [], ◌++◌};
-    ghost use Rattle.std.specs.Option.{option_map_or};
-    ghost use Rattle.bit_grammar.specs.declared.op.Op.{Op};
-    ghost use Rattle.bit_abbrev.specs.Table.{definitions_at};
-
-    ghost Value = { List (List Op) };
-
-    ghost view = { λ inside. option_map_or (λ shared. definitions_at shared.0.value shared.1) inside.shared
-        [] ++ inside.own.items };
-}
-
-/// The definitions in force in a block, as two lists: the table's and the block's own.
+/// The definitions in force in a block that are ready, as two lists.
 #[derive(Drop)]
 pub struct Definitions<'a> {
     shared: &'a [Abbrev],
+    count: usize,
     own: &'a [Abbrev],
 }
 
-impl<'a> Model for Definitions<'a> {
-    ghost use Rattle.std.specs.Prelude.{List, ◌++◌};
-    ghost use Rattle.bit_grammar.specs.declared.op.Op.{Op};
-
-    ghost Value = { List (List Op) };
-
-    ghost view = { λ all. all.shared.now ++ all.own.now };
-}
-
 impl<'a> Definitions<'a> {
-    /// The definition at an index, if there is one.
+    /// The definition at an index, if there is one that is ready.
     #[inline(always)]
-    pub fn get(&self, index: usize) -> Option<&'a Abbrev>
-        ensures { option_copied result ≡ slice_get self.now index }
-    {
-        if index < self.shared.len() {
+    pub fn get(&self, index: usize) -> Option<&'a Abbrev> {
+        if index < self.count {
             self.shared.get(index)
         } else {
-            self.own.get(index - self.shared.len())
+            self.own.get(index - self.count)
         }
     }
 }
 
-/// Definitions in force, which are looked up by index.
 pub trait Lookup {
-    ghost use Rattle.std.specs.Prelude.{List};
-    ghost use Rattle.bit_grammar.specs.declared.op.Op.{Op};
-
-    // The definitions in order.
-    ghost listed: { Self → List (List Op) };
-
-    /// The definition at an index, if there is one.
-    fn look_up(&self, index: usize) -> Option<&Abbrev>
-        ensures { option_copied result ≡ slice_get (listed self.now) index };
+    fn look_up(&self, index: usize) -> Option<&Abbrev>;
 }
 
 impl<'a> Lookup for Definitions<'a> {
-    ghost listed = { λ definitions. definitions };
-
     #[inline(always)]
     fn look_up(&self, index: usize) -> Option<&Abbrev> {
         self.get(index)
     }
 }
 
-/// Each look-up searches the table. For many look-ups, `InForce::all` searches it once.
 impl Lookup for InForce {
-    ghost listed = { λ definitions. definitions };
-
     #[inline(always)]
     fn look_up(&self, index: usize) -> Option<&Abbrev> {
         self.get(index)
@@ -146,62 +94,143 @@ impl Lookup for InForce {
 }
 
 impl InForce {
-    /// No definitions. It allocates nothing.
-    pub fn new(alloc: Global) -> InForce
-        ensures { result ≡ [] }
-    {
-        InForce {
-            shared: None,
-            own: Vec::new(alloc),
+    pub fn new(alloc: Global) -> InForce {
+        InForce { alloc, shared: None, own: Vec::new(alloc), later: None }
+    }
+
+    /// How many come from the table.
+    #[inline(always)]
+    fn from_table(&self) -> usize {
+        match &self.shared {
+            Some((table, id)) => table.count_for(*id),
+            None => 0,
         }
     }
 
-    /// Adds a definition of the block. If an allocation fails, the definition is dropped.
-    pub fn define(&mut self, abbrev: Abbrev) -> Result<(), AllocError>
-        ensures ok { OnOk result (self.new ≡ self.old ++ «abbrev» ∷ []) }
-        ensures err { OnErr result (self.new ≡ self.old) }
-    {
+    #[cold]
+    #[inline(never)]
+    fn begin_later(&mut self) -> Result<(), AllocError> {
+        if self.later.is_none() {
+            let list = HeldList::new(self.alloc);
+            self.later = Some(Box::new(self.alloc, Later { list, found: None })?);
+        }
+        Ok(())
+    }
+
+    #[cold]
+    #[inline(never)]
+    fn define_later(&mut self, abbrev: Abbrev) -> Result<(), AllocError> {
+        self.begin_later()?;
+        let index = self.from_table() + self.own.len();
+        let Some(later) = &mut self.later else {
+            unreachable!();
+        };
+        let at = index + later.list.len();
+        later.list.add(0, abbrev.ops())?;
+        later.found = Some((at, abbrev));
+        Ok(())
+    }
+
+    pub fn define(&mut self, abbrev: Abbrev) -> Result<(), AllocError> {
+        let is_later = match &self.later {
+            Some(later) => later.list.len() > 0,
+            None => false,
+        };
+        if is_later || !has_room(self.own.as_slice(), abbrev.ops().len()) {
+            return self.define_later(abbrev);
+        }
         self.own.push(abbrev)?;
         Ok(())
     }
 
-    /// The plans of the first definitions, possibly none.
-    pub fn plans(&self) -> &[Plan]
-        ensures { ArePlans self.now result.now }
-    {
+    pub fn plans(&self) -> &[Plan] {
         match &self.shared {
             Some((table, id)) => table.plans_for(*id),
             None => &[],
         }
     }
 
-    /// All of them, for many look-ups.
     #[inline]
-    pub fn all(&self) -> Definitions<'_>
-        ensures { result ≡ self.now }
-    {
-        let shared = match &self.shared {
-            Some((table, id)) => table.for_block(*id),
-            None => &[],
+    pub fn all(&self) -> Definitions<'_> {
+        let (shared, count) = match &self.shared {
+            Some((table, id)) => {
+                let ready = table.for_block(*id);
+                (ready, ready.len() + table.later_for(*id))
+            }
+            None => { let none: &[Abbrev] = &[]; (none, 0) }
         };
-        Definitions {
-            shared,
-            own: self.own.as_slice(),
+        Definitions { shared, count, own: self.own.as_slice() }
+    }
+
+    #[inline]
+    pub fn get(&self, index: usize) -> Option<&Abbrev> {
+        if let Some(ready) = self.all().get(index) {
+            return Some(ready);
+        }
+        self.found(index)
+    }
+
+    #[cold]
+    #[inline(never)]
+    fn found(&self, index: usize) -> Option<&Abbrev> {
+        let Some(later) = &self.later else {
+            return None;
+        };
+        match &later.found {
+            Some((at, abbrev)) => if *at == index { Some(abbrev) } else { None },
+            None => None,
         }
     }
 
-    /// The definition at an index, if there is one.
-    #[inline]
-    pub fn get(&self, index: usize) -> Option<&Abbrev>
-        ensures { option_copied result ≡ slice_get self.now index }
-    {
-        self.all().get(index)
+    /// Makes a definition that is not ready one that is found.
+    #[inline(always)]
+    pub fn load(&mut self, index: usize) -> Result<(), AllocError> {
+        if self.all().get(index).is_some() {
+            return Ok(());
+        }
+        self.load_apart(index)
+    }
+
+    #[cold]
+    #[inline(never)]
+    fn load_apart(&mut self, index: usize) -> Result<(), AllocError> {
+        if self.found(index).is_some() {
+            return Ok(());
+        }
+        let count = self.from_table();
+        let abbrev = if index < count {
+            let Some((table, id)) = &self.shared else {
+                unreachable!();
+            };
+            table.copy(*id, index)?
+        } else {
+            let place = index - count;
+            let Some(later) = &self.later else {
+                return Ok(());
+            };
+            if place < self.own.len() || place - self.own.len() >= later.list.len() {
+                return Ok(());
+            }
+            later.list.copy(place - self.own.len())?
+        };
+        self.begin_later()?;
+        let Some(later) = &mut self.later else {
+            unreachable!();
+        };
+        later.found = Some((index, abbrev));
+        Ok(())
     }
 
     /// The last definition that the block added, or else the last one of the table.
-    pub fn last(&self) -> Option<&Abbrev>
-        ensures { option_copied result ≡ slice_get self.now (length self.now - 1) }
-    {
+    pub fn last(&self) -> Option<&Abbrev> {
+        if let Some(later) = &self.later {
+            if later.list.len() > 0 {
+                return match &later.found {
+                    Some((_, abbrev)) => Some(abbrev),
+                    None => None,
+                };
+            }
+        }
         if let Some(own) = self.own.last() {
             return Some(own);
         }

@@ -7,6 +7,8 @@ ghost use Rattle.bit_abbrev.specs.Table.{definitions_at, table_shown};
 
 use crate::Abbrev;
 use crate::groups::PlanGroups;
+use crate::held::HeldList;
+use std::boxed::Box;
 use crate::plan::Plan;
 use std::alloc::{AllocError, Global};
 use std::collections::BTreeMap;
@@ -19,21 +21,24 @@ pub struct InfoTable {
     alloc: Global,
     lists: BTreeMap<u32, Vec<Abbrev>>,
     groups: PlanGroups,
+    left: usize,
+    operands: usize,
+    /// The definitions after the first ones.
+    later: Option<Box<HeldList>>,
+    newest: Option<Box<Abbrev>>,
 }
 
-impl Model for InfoTable {
-    ghost use Rattle.std.specs.Prelude.{ℕ, List};
-    ghost use Rattle.bit_grammar.specs.declared.op.Op.{Op};
-
-    ghost Value = { List (ℕ × List (List Op)) };
-
-    ghost use Rattle.bit_abbrev.specs.Groups.{HavePlans};
-    ghost use Rattle.bit_abbrev.specs.Table.{definitions_at, table_shown};
-
-    ghost view = { λ table. table_shown table.lists.entries };
-
-    ghost invariant = { λ table. HavePlans (definitions_at (table_shown table.lists.entries))
-        table.groups.groups.items };
+/// Whether a definition of so many operands may be ready beside these.
+#[inline(always)]
+pub(crate) fn has_room(ready: &[Abbrev], count: usize) -> bool {
+    if ready.len() >= 64 {
+        return false;
+    }
+    let mut operands = count;
+    for abbrev in ready {
+        operands += abbrev.ops().len();
+    }
+    operands <= 512
 }
 
 /// Adds a definition to those for a block id. If an allocation fails, it is dropped.
@@ -75,6 +80,10 @@ impl InfoTable {
             alloc,
             lists: BTreeMap::new(alloc),
             groups: PlanGroups::new(alloc, most),
+            left: 64,
+            operands: 512,
+            later: None,
+            newest: None,
         }
     }
 
@@ -102,6 +111,12 @@ impl InfoTable {
             other) }
         ensures err { OnErr result (self.new ≡ self.old) }
     {
+        let count = abbrev.ops().len();
+        if self.left == 0 || count > self.operands {
+            return self.define_later(id, abbrev);
+        }
+        self.left -= 1;
+        self.operands -= count;
         let before = self.for_block(id).len();
         self.groups.add(self.alloc, id, before, abbrev.ops());
         match add(&mut self.lists, self.alloc, id, abbrev) {
@@ -111,6 +126,64 @@ impl InfoTable {
                 self.groups.clear();
                 Err(error)
             }
+        }
+    }
+
+    #[cold]
+    #[inline(never)]
+    fn define_later(&mut self, id: u32, abbrev: Abbrev) -> Result<(), AllocError> {
+        self.left = 0;
+        if self.later.is_none() {
+            self.later = Some(Box::new(self.alloc, HeldList::new(self.alloc))?);
+        }
+        let Some(later) = &mut self.later else {
+            unreachable!();
+        };
+        later.add(id, abbrev.ops())?;
+        match &mut self.newest {
+            Some(newest) => **newest = abbrev,
+            None => self.newest = Some(Box::new(self.alloc, abbrev)?),
+        }
+        Ok(())
+    }
+
+    /// The last definition, which is for a block id.
+    pub fn newest(&self, id: u32) -> Option<&Abbrev> {
+        match &self.newest {
+            Some(newest) => Some(&**newest),
+            None => self.for_block(id).last(),
+        }
+    }
+
+    /// In the order of block ids.
+    pub(crate) fn finish(&mut self) -> Result<(), AllocError> {
+        self.newest = None;
+        match &mut self.later {
+            Some(later) => later.sort(),
+            None => Ok(()),
+        }
+    }
+
+    #[inline(always)]
+    pub(crate) fn later_for(&self, id: u32) -> usize {
+        match &self.later {
+            Some(later) => later.count_of(id),
+            None => 0,
+        }
+    }
+
+    #[inline(always)]
+    pub(crate) fn count_for(&self, id: u32) -> usize {
+        self.for_block(id).len() + self.later_for(id)
+    }
+
+    #[cold]
+    #[inline(never)]
+    pub(crate) fn copy(&self, id: u32, index: usize) -> Result<Abbrev, AllocError> {
+        let ready = self.for_block(id).len();
+        match &self.later {
+            Some(later) => later.copy(later.run_of(id).start + index - ready),
+            None => Err(AllocError),
         }
     }
 }

@@ -15,6 +15,7 @@ mod abbrev;
 mod bits;
 mod definition;
 mod few;
+mod held;
 mod groups;
 mod in_force;
 mod info;

@@ -51,7 +51,7 @@ impl Frame {
         match &self.info {
             None => self.definitions.last(),
             Some(info) => match info.described {
-                Some(id) => info.made.for_block(id).last(),
+                Some(id) => info.made.newest(id),
                 None => None,
             },
         }
@@ -188,6 +188,9 @@ pub(crate) fn record_after<S: Source, V: ValueTaker>(
     ensures few { Has V.took values.new.taker (λ list. OnOk result (length list ≤ room)) }
     ensures head { frame.new.head ≡ frame.old.head }
 {
+    if id > 3 && frame.definitions.load((id - 4) as usize).is_err() {
+        return Err(reader.fail(Fault::Memory));
+    }
     let definitions = &frame.definitions;
     let code = read_entry::<V, _, InForce, _>(reader, definitions, room, id, first, values)?;
     let after = reader.position();
