@@ -11,5 +11,6 @@ pub mod Covering
 pub mod Grouping
 pub mod PlanParts
 pub mod PassedRecords
+pub mod Singles
 pub mod Buffered
 pub mod Missing

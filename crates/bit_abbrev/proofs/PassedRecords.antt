@@ -23,6 +23,7 @@ use Rattle.bit_abbrev.specs.declared.plan.Passes.{Passes}
 use Rattle.bit_abbrev.specs.declared.plan.Plan.{Plan}
 use Rattle.bit_abbrev.specs.declared.plan.Rest.{Rest}
 use Rattle.bit_abbrev.specs.declared.plan.Rest.TheVariants as rest
+use Rattle.bit_abbrev.specs.Scalars.{Elements}
 use Rattle.bit_abbrev.specs.Plans.{Covers, HasArray, HasPasses, HasRest, HasValues, TakesBits}
 use Rattle.bit_abbrev.proofs.Covering.{beyond_both, beyond_none, same_ok, left_is, numbers_front, takes_field, values_within}
 
@@ -118,12 +119,6 @@ singles_read (op ∷ ops) a len h =
     }
 
 -- ---- arrays
-
--- values of an array's elements
-pub record Elements (element : Op) (count : ℕ) (b : BufferedBits) (more : ℕ) : Type 0 where
-  pub values : List ℕ
-  pub many : length values ≡ count
-  pub reads : Reads (repeat count (scalar element)) b values (beyond b more)
 
 pub number_elements : (n count : ℕ) (b : BufferedBits) (more : ℕ) → HasNumbers n count b more → Elements (Vbr n) count b more
 unfolding scalar

@@ -26,6 +26,7 @@ mod plan_tests;
 mod reading_tests;
 mod record;
 mod runs;
+mod scalars;
 mod tail;
 #[cfg(test)]
 mod tests;
@@ -43,3 +44,4 @@ pub use layout::Layout;
 pub use plan::{MARGIN, Passed, Plan, pass_plain};
 pub use record::{read_abbreviated, read_plain, read_record};
 pub use runs::Runs;
+pub use scalars::{FIELDS, MOST_VALUES, pass_by_operands, pass_ops, value_of};

@@ -7,7 +7,7 @@ ghost use Rattle.bit_events.specs.MachineView.{TookSome};
 ghost use Rattle.bit_events.specs.Passing.{PassesRun};
 
 use crate::passing::PassedRun;
-use bit_abbrev::{Abbrev, Definitions, InForce, Plan};
+use bit_abbrev::{Abbrev, InForce, Plan};
 use bit_fields::{PlacedBits, ValueTaker};
 use std::alloc::AllocError;
 
@@ -84,14 +84,6 @@ pub trait Gatherer {
     #[inline(always)]
     fn by_plans(&self) -> bool {
         true
-    }
-
-    /// Whether `pass` may gather a record with this id. These definitions are in force, and the first `planned` of them have plans.
-    #[inline(always)]
-    fn may_pass(&self, id: u32, _definitions: &Definitions<'_>, planned: usize) -> bool
-        requires { 3 ≤ id }
-    {
-        (id - 3) as usize <= planned
     }
 
     /// Gathers records of the innermost block which come first in these bits: as many as it likes. Their ids have this width, and the

@@ -18,7 +18,7 @@ ghost use Rattle.bit_events.specs.Runs.{AddsBehind, GathersRun, ReadsTo, SeesRec
 use crate::entry::read_entry;
 use crate::frame::Frame;
 use crate::gatherer::Gatherer;
-use bit_abbrev::{Definitions, InForce, Lookup, MARGIN, Plan};
+use bit_abbrev::{Definitions, InForce, Layout, Lookup, MARGIN, Plan};
 use bit_fields::{Buffered, BufferedParts, FieldWidth, Limits, PlacedBits, ValueTaker};
 use std::alloc::AllocError;
 
@@ -102,6 +102,18 @@ struct GatheredRun {
     is_over: bool,
 }
 
+/// Whether a record with this id may be passed over.
+#[inline(always)]
+fn may_pass(id: u32, definitions: &Definitions<'_>) -> bool
+    requires { 3 ≤ id }
+{
+    id == 3
+        || match definitions.get((id - 4) as usize) {
+            Some(abbrev) => abbrev.layout() != Layout::Odd,
+            None => false,
+        }
+}
+
 /// Gathers buffered records one by one, until one comes that may be passed over. The first is read in any case.
 #[inline(never)]
 fn gather_odd<G: Gatherer>(
@@ -127,7 +139,6 @@ fn gather_odd<G: Gatherer>(
     let mut room = limits.values().saturating_sub(spent);
     let mut is_first = true;
     let definitions = frame.definitions.all();
-    let planned = frame.definitions.plans().len();
     loop {
         values.truncate(0);
         let passes = !is_first && buffered.len() >= MARGIN;
@@ -138,7 +149,7 @@ fn gather_odd<G: Gatherer>(
                 is_over: true,
             });
         };
-        if passes && gatherer.may_pass(id, &definitions, planned) {
+        if passes && may_pass(id, &definitions) {
             *used = spent;
             return Ok(GatheredRun {
                 after: first,

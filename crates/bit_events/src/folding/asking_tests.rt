@@ -324,10 +324,10 @@ impl Gatherer for Counted {
         bits: PlacedBits<'_>,
         width: u32,
         plans: &[Plan],
-        _definitions: &InForce,
+        definitions: &InForce,
         room: u64,
     ) -> Result<PassedRun, AllocError> {
-        pass_records(bits, width, plans, room, self)
+        pass_records(bits, width, plans, definitions, room, self)
     }
 
     fn leave(&mut self, after: u64) -> Result<(), AllocError> {
