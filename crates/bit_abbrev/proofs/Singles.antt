@@ -16,8 +16,10 @@ use Rattle.bit_grammar.specs.Terms.{CodeAndValues, character}
 use Rattle.bit_fields.specs.Buffered.{BufferedBits, Reads, beyond}
 use Rattle.bit_fields.specs.Pens.{TakesNumber}
 use Rattle.bit_fields.specs.Placed.{HasNumbers}
+use Rattle.bit_fields.specs.declared.placed.PlacedBits.{PlacedBits}
+use Rattle.bit_fields.specs.PlacedView.{placed}
 use Rattle.bit_fields.proofs.BufferedReads.{reads_forward, reads_there}
-use Rattle.bit_fields.proofs.Placing.{fixed_shown}
+use Rattle.bit_fields.proofs.Placing.{fixed_shown, length_at}
 use Rattle.bit_abbrev.specs.declared.layout.Layout.TheVariants as layout
 use Rattle.bit_abbrev.specs.declared.plan.Passed.{Passed}
 use Rattle.bit_abbrev.specs.Layouts.{IsSingle, AreSingles, HasLayout}
@@ -342,3 +344,17 @@ numbers_passed element n m count a len is same h = (h.0, subst (λ (x : Op). Ele
 pub fields_passed : (element : Op) (width count : ℕ) (a : BufferedBits) (len : ℕ) → TakesBits element width → len ≡ count * width → len ≤ length a.bits → (len ≤ length a.bits) × Elements element count a len
 fields_passed element width count a len takes len_is there =
     (there, subst (Elements element count a) (sym len_is) (field_elements element width count a takes (omega (arith, len_is, there))))
+
+-- how many bits an element's field takes
+pub takes_width : (element : Op) (n width : ℕ) → element ≡ Fixed n → width ≡ n → TakesBits element width
+takes_width element n width is same = rw is same
+
+pub takes_none : (element : Op) (v width : ℕ) → element ≡ Literal v → width ≡ 0 → TakesBits element width
+takes_none element v width is none = rw is none
+
+pub takes_six : (element : Op) (width : ℕ) → element ≡ Char6 → width ≡ 6 → TakesBits element width
+takes_six element width is six = rw is six
+
+-- positions of placed bits are below 2^64
+pub placed_fits : (p : PlacedBits) → (placed p).position + length (placed p).bits < 2 ^ 64
+placed_fits p = omega (arith, p.there, p.fits, length_at p.at p.bytes.now)

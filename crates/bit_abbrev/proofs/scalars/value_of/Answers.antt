@@ -1,12 +1,18 @@
-use Rattle.std.proofs.Common.{ℕ, ap, ◌∙◌}
+use Rattle.std.proofs.Common.{◌≡◌, ℕ, refl, ap, ◌∙◌}
+use Rattle.bit_grammar.specs.declared.op.Op.TheVariants.{Vbr}
 use Rattle.std.proofs.lemmas.Option.{IfSome_then}
 use Rattle.bit_fields.specs.PlacedView.{placed}
 use Rattle.bit_abbrev.proofs.Singles.{takes_literal, takes_fixed, takes_number, takes_character, is_character}
 use Rattle.bit_abbrev.proofs.scalars.value_of.Goals as goal
 use Rattle.bit_abbrev.proofs.scalars.value_of.Goals.{in-Literal, in-Fixed, in_default}
 
+pub returns-in-Vbr-eq6 : goal.returns-in-Vbr-eq6
+returns-in-Vbr-eq6 c =
+    let six : c.in-Vbr-eq6.field-0 ≡ 6 = cc in
+    IfSome_then c.near_number.result c.near_number.ensures (λ read h. takes_number c.args.op 6 6 1888 (placed c.args.bits) read.0 (placed read.1) (c.in-Vbr-eq6.is ∙ ap Vbr six) refl h)
+
 pub returns-in-Vbr : goal.returns-in-Vbr
-returns-in-Vbr c = IfSome_then c.near_number.result c.near_number.ensures (λ read h. takes_number c.args.op c.in-Vbr.width c.from-in-Vbr.result 1888 (placed c.args.bits) read.0 (placed read.1) c.in-Vbr.is c.from-in-Vbr.ensures h)
+returns-in-Vbr c = IfSome_then c.near_number-in-Vbr.result c.near_number-in-Vbr.ensures (λ read h. takes_number c.args.op c.in-Vbr.width c.from-in-Vbr.result 1888 (placed c.args.bits) read.0 (placed read.1) c.in-Vbr.is c.from-in-Vbr.ensures h)
 
 pub returns : goal.returns
 returns c =
