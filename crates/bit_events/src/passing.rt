@@ -90,7 +90,7 @@ trait PassOne: Copy {
         requires id { 3 ≤ id }
         requires there { 2240 ≤ length (placed bits).bits }
         ensures passes { IfSome result (λ passed. (first : ℕ) (definitions : List (List Op))
-            → knows self.entry definitions → passed.count ≤ room
+            → knows self definitions → passed.count ≤ room
             → PassesOver (entry room first id definitions) (beyond (placed bits.entry) width) passed) }
         ensures within { IfSome result (λ passed. width + passed.len ≤ length (placed bits.entry).bits) };
 }
@@ -153,7 +153,7 @@ fn pass_run<'a, C: RunCounter, P: PassOne>(
     counter: &mut C,
 ) -> Result<Passing<'a>, AllocError>
     requires width { width ≤ 32 }
-    ensures passes { IfOk result (λ run. (definitions : List (List Op)) → P.knows by.entry definitions
+    ensures passes { IfOk result (λ run. (definitions : List (List Op)) → P.knows by definitions
         → PassesOn C.counted width definitions counter.old room (placed bits.entry) counter.new run.room
         (placed run.bits)) }
 {
