@@ -17,7 +17,7 @@ JOBS ?= $(shell nproc)
 PROGRAM := crates/bitstool/out/bitstool
 # Programs for tests/refused_memory and bench/counts.
 TOOLS := refused_calls workloads
-LIBRARIES := $(filter-out bit_c,$(patsubst crates/%/src/lib.rt,%,$(wildcard crates/*/src/lib.rt)))
+LIBRARIES := $(filter-out bit_c %_tests,$(patsubst crates/%/src/lib.rt,%,$(wildcard crates/*/src/lib.rt)))
 sources = $(shell find crates/$(1) -path '*/out' -prune -o \( -name '*.rt' -o -name '*.antt' \) -print)
 below = $(filter $(LIBRARIES),$(shell sed -n 's/^$(1)[^:]*://p' crates.txt))
 # The version of the C library: of its calls, structures and numbers.

@@ -11,5 +11,7 @@ pub mod Covering
 pub mod Grouping
 pub mod PlanParts
 pub mod PassedRecords
+pub mod Singles
+pub mod FewValues
 pub mod Buffered
 pub mod Missing

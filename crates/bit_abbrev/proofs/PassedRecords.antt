@@ -23,6 +23,7 @@ use Rattle.bit_abbrev.specs.declared.plan.Passes.{Passes}
 use Rattle.bit_abbrev.specs.declared.plan.Plan.{Plan}
 use Rattle.bit_abbrev.specs.declared.plan.Rest.{Rest}
 use Rattle.bit_abbrev.specs.declared.plan.Rest.TheVariants as rest
+use Rattle.bit_abbrev.specs.Scalars.{Elements}
 use Rattle.bit_abbrev.specs.Plans.{Covers, HasArray, HasPasses, HasRest, HasValues, TakesBits}
 use Rattle.bit_abbrev.proofs.Covering.{beyond_both, beyond_none, same_ok, left_is, numbers_front, takes_field, values_within}
 
@@ -119,12 +120,6 @@ singles_read (op ∷ ops) a len h =
 
 -- ---- arrays
 
--- values of an array's elements
-pub record Elements (element : Op) (count : ℕ) (b : BufferedBits) (more : ℕ) : Type 0 where
-  pub values : List ℕ
-  pub many : length values ≡ count
-  pub reads : Reads (repeat count (scalar element)) b values (beyond b more)
-
 pub number_elements : (n count : ℕ) (b : BufferedBits) (more : ℕ) → HasNumbers n count b more → Elements (Vbr n) count b more
 unfolding scalar
 number_elements n count b more h = record { values = h.1.0; many = h.1.1; reads = h.1.2 }
@@ -158,7 +153,7 @@ has_array element a count b first more len tail tail_is len_is seen here element
 
 -- ---- records
 
-plain_read : (room code count : ℕ) (values : List ℕ) (a c d b : BufferedBits) → count ≤ room → Reads (vbr 6) a code c → Reads (vbr 6) c count d → Reads (repeat count (vbr 6)) d values b → Reads (unabbreviated room) a (record { code = code; values = values }) b
+pub plain_read : (room code count : ℕ) (values : List ℕ) (a c d b : BufferedBits) → count ≤ room → Reads (vbr 6) a code c → Reads (vbr 6) c count d → Reads (repeat count (vbr 6)) d values b → Reads (unabbreviated room) a (record { code = code; values = values }) b
 unfolding unabbreviated value_count
 plain_read room code count values a c d b few first second third = let holds = le-leb count room few in rw (first, second, holds, third) refl
 

@@ -4,5 +4,6 @@ pub mod Groups
 pub mod Layouts
 pub mod Operands
 pub mod Plans
+pub mod Scalars
 pub mod Table
 pub mod Values

@@ -14,27 +14,24 @@
 mod abbrev;
 mod bits;
 mod definition;
+mod few;
 mod groups;
 mod in_force;
 mod info;
 mod laws;
 mod layout;
 mod plan;
-#[cfg(test)]
-mod plan_tests;
-#[cfg(test)]
-mod reading_tests;
 mod record;
 mod runs;
+mod scalars;
 mod tail;
-#[cfg(test)]
-mod tests;
 mod widths;
 
 pub use abbrev::{Abbrev, BadAbbrev, Ops};
 pub use bit_grammar::Op;
 pub use bits::{Bits, NotBuffered};
 pub use definition::read_define;
+pub use few::{FEW, read_few};
 pub use groups::Planning;
 pub use in_force::{Definitions, InForce, Lookup, SharedInfo};
 pub use info::InfoTable;
@@ -43,3 +40,4 @@ pub use layout::Layout;
 pub use plan::{MARGIN, Passed, Plan, pass_plain};
 pub use record::{read_abbreviated, read_plain, read_record};
 pub use runs::Runs;
+pub use scalars::{FIELDS, MOST_VALUES, pass_by_operands, pass_ops, value_of};

@@ -19,3 +19,4 @@ mod Named
 pub mod Rest
 pub mod PassedOver
 pub mod PassedEvents
+pub mod FewRecords

@@ -20,7 +20,7 @@ use Rattle.bit_events.specs.declared.passing.CountedRecord.{CountedRecord}
 use Rattle.bit_events.specs.declared.passing.PassedRun.{PassedRun}
 use Rattle.bit_events.specs.FrameView.{frame_shown, info_shown}
 use Rattle.bit_events.specs.MachineView.{record_of}
-use Rattle.bit_events.specs.Passing.{GathersRecords, PassedTo, PassesRecords, PassesRun, collected, mark_of}
+use Rattle.bit_events.specs.Passing.{CountsOne, GathersRecords, PassedTo, PassesOn, PassesRecords, PassesRun, collected, mark_of}
 use Rattle.bit_events.specs.Runs.{GathersTo}
 use Rattle.bit_events.proofs.Framing.{found_entry, plain_entry}
 use Rattle.bit_events.proofs.PlacedHeads.{field_below}
@@ -53,19 +53,32 @@ PassesPlain fields passed = (room : ℕ) → passed.count ≤ room → PassesOve
 abbrev PassesPlanned : Plan → (room : ℕ) → BufferedBits → Passed → Type 0
 PassesPlanned plan room fields passed = (first : ℕ) (ops : List Op) → IsPlan ops plan → passed.count ≤ room → PassesOver (by_definition first room ops) fields passed
 
--- a record after its id
-abbrev PassesEntry : List Plan → (id room : ℕ) → BufferedBits → Passed → Type 0
-PassesEntry plans id room fields passed = (first : ℕ) (definitions : List (List Op)) → ArePlans definitions plans → passed.count ≤ room → PassesOver (entry room first id definitions) fields passed
+-- a record after its id, with definitions in force of which something is known
+abbrev PassesEntry : (List (List Op) → Type 0) → (id room : ℕ) → BufferedBits → Passed → Type 0
+PassesEntry knows id room fields passed = (first : ℕ) (definitions : List (List Op)) → knows definitions → passed.count ≤ room → PassesOver (entry room first id definitions) fields passed
 
-pub plain_passes : (result : Option Passed) (plans : List Plan) (id room : ℕ) (fields a : BufferedBits) → fields ≡ a → id ≡ 3 → IfSome result (PassesPlain fields) → IfSome result (PassesEntry plans id room a)
-plain_passes None plans id room fields a is plain h = tt
-plain_passes (Some passed) plans id room fields a is plain h = λ first definitions are few. plain_over room first id definitions a passed plain (subst (λ (x : BufferedBits). PassesOver (unabbreviated room) x passed) is (h room few))
+pub plain_passes : (result : Option Passed) (knows : List (List Op) → Type 0) (id room : ℕ) (fields a : BufferedBits) → fields ≡ a → id ≡ 3 → IfSome result (PassesPlain fields) → IfSome result (PassesEntry knows id room a)
+plain_passes None knows id room fields a is plain h = tt
+plain_passes (Some passed) knows id room fields a is plain h = λ first definitions known few. plain_over room first id definitions a passed plain (subst (λ (x : BufferedBits). PassesOver (unabbreviated room) x passed) is (h room few))
 
-pub planned_passes : (result : Option Passed) (plans : List Plan) (plan : Plan) (id room : ℕ) (fields a : BufferedBits) → fields ≡ a → id ≢ 3 → slice_get plans (id - 4) ≡ Some plan → IfSome result (PassesPlanned plan room fields) → IfSome result (PassesEntry plans id room a)
+pub planned_passes : (result : Option Passed) (plans : List Plan) (plan : Plan) (id room : ℕ) (fields a : BufferedBits) → fields ≡ a → id ≢ 3 → slice_get plans (id - 4) ≡ Some plan → IfSome result (PassesPlanned plan room fields) → IfSome result (PassesEntry (λ d. ArePlans d plans) id room a)
 planned_passes None plans plan id room fields a is other found h = tt
 planned_passes (Some passed) plans plan id room fields a is other found h = λ first definitions are few.
     let d = are (id - 4) plan found in
     found_over room first id definitions d.0 a passed other d.1 (subst (λ (x : BufferedBits). PassesOver (by_definition first room d.0) x passed) is (h first d.0 d.2 few))
+
+-- what the operands of a definition say
+abbrev PassesOperands : List Op → (room : ℕ) → BufferedBits → Passed → Type 0
+PassesOperands ops room fields passed = (first : ℕ) → PassesOver (by_definition first room ops) fields passed
+
+pub operands_passes : (result : Option Passed) (all : List (List Op)) (ops : List Op) (id room : ℕ) (fields a : BufferedBits) → fields ≡ a → id ≢ 3 → slice_get all (id - 4) ≡ Some ops → IfSome result (PassesOperands ops room fields) → IfSome result (PassesEntry (λ d. all ≡ d) id room a)
+operands_passes None all ops id room fields a is other found h = tt
+operands_passes (Some passed) all ops id room fields a is other found h = λ first definitions same few.
+    found_over room first id definitions ops a passed other (ap (λ (d : List (List Op)). slice_get d (id - 4)) (sym same) ∙ found) (subst (λ (x : BufferedBits). PassesOver (by_definition first room ops) x passed) is (h first))
+
+pub operands_within : (result : Option Passed) (ops : List Op) (room width : ℕ) (fields a : BufferedBits) → fields ≡ beyond a width → width ≤ length a.bits → IfSome result (PassesOperands ops room fields) → IfSome result (λ passed. width + passed.len ≤ length a.bits)
+operands_within None ops room width fields a is there h = tt
+operands_within (Some passed) ops room width fields a is there h = let some = (h 0).0 in omega (arith, some, ap (λ (x : BufferedBits). length x.bits) is, length-drop width a.bits)
 
 -- the bits that are passed over are there
 pub plain_within : (result : Option Passed) (width : ℕ) (fields a : BufferedBits) → fields ≡ beyond a width → width ≤ length a.bits → IfSome result (PassesPlain fields) → IfSome result (λ passed. width + passed.len ≤ length a.bits)
@@ -131,8 +144,41 @@ one_passed width definitions room a records left b one list c so most id_seen se
     events : map notes (records ++ mark_of one list ∷ []) ≡ map notes records ++ event ∷ []
     events = map-append notes records (mark_of one list ∷ []) ∙ ap (λ (e : Event). map notes records ++ e ∷ []) event_is
 
+-- no record was counted
+pub on_none : {C : Type 0} (counted : C → List RecordMark → C → Type 0) (width : ℕ) (definitions : List (List Op)) (old : C) (room : ℕ) (a : BufferedBits) → PassesOn counted width definitions old room a old room a
+on_none counted width definitions old room a = record {
+  records = [];
+  counts = λ first done was. subst (λ (records : List RecordMark). counted first records old) (sym (append-nil done)) was;
+  passes = λ most first others so. subst (λ (records : List RecordMark). PassedTo width definitions most first records room a) (sym (append-nil others)) so;
+}
+
+-- one more was
+pub on_one : {C : Type 0} (counted : C → List RecordMark → C → Type 0) (width : ℕ) (definitions : List (List Op)) (old : C) (room : ℕ) (a : BufferedBits) (mid : C) (left : ℕ) (b : BufferedBits) (one : CountedRecord) (list : List ℕ) (new : C) (c : BufferedBits)
+    → PassesOn counted width definitions old room a mid left b → 3 ≤ one.id → Reads (fixed width) b one.id (beyond b width) → Reads (entry left b.position one.id definitions) (beyond b width) (record { code = one.code; values = list }) c → length list ≤ left → one.first ≡ b.position → one.after ≡ c.position → CountsOne counted mid (mark_of one list) new
+    → PassesOn counted width definitions old room a new (left - length list) c
+on_one counted width definitions old room a mid left b one list new c was most id_seen seen few first_is after_is counts = record {
+  records = was.records ++ mark_of one list ∷ [];
+  counts = λ first done h. subst (λ (records : List RecordMark). counted first records new) (append_assoc done was.records (mark_of one list ∷ [])) (counts first (done ++ was.records) (was.counts first done h));
+  passes = λ all first others so. subst (λ (records : List RecordMark). PassedTo width definitions all first records (left - length list) c) (append_assoc others was.records (mark_of one list ∷ []))
+      (one_passed width definitions all first (others ++ was.records) left b one list c (was.passes all first others so) most id_seen seen few first_is after_is);
+}
+
+pub on_then : {C : Type 0} (counted : C → List RecordMark → C → Type 0) (width : ℕ) (definitions : List (List Op)) (old : C) (room : ℕ) (a : BufferedBits) (mid : C) (left : ℕ) (b : BufferedBits) (new : C) (last : ℕ) (c : BufferedBits)
+    → PassesOn counted width definitions old room a mid left b → PassesOn counted width definitions mid left b new last c → PassesOn counted width definitions old room a new last c
+on_then counted width definitions old room a mid left b new last c front rest = record {
+  records = front.records ++ rest.records;
+  counts = λ first done h. subst (λ (records : List RecordMark). counted first records new) (append_assoc done front.records rest.records) (rest.counts first (done ++ front.records) (front.counts first done h));
+  passes = λ most first others so. subst (λ (records : List RecordMark). PassedTo width definitions most first records last c) (append_assoc others front.records rest.records)
+      (rest.passes most first (others ++ front.records) (front.passes most first others so));
+}
+
+pub on_records : {C : Type 0} (counted : C → List RecordMark → C → Type 0) (width : ℕ) (definitions : List (List Op)) (old : C) (room : ℕ) (a : BufferedBits) (new : C) (left : ℕ) (b : BufferedBits) (run : PassedRun)
+    → PassesOn counted width definitions old room a new left b → counted old [] old → run.room ≡ left → run.after ≡ b.position → (records : List RecordMark) × counted old records new × PassesRecords width definitions room a records run
+on_records counted width definitions old room a new left b run was none room_is after_is =
+    (was.records, was.counts old [] none, passes_records width definitions room a was.records left b run (was.passes room a [] (none_passed width definitions room a)) room_is after_is)
+
 -- what a counter counted was gathered
-pub counted_gathered : {C G : Type 0} (counted : C → List RecordMark → C → Type 0) (gathered : G → List Event → G → Type 0) (width : ℕ) (plans : List Plan) (definitions : List (List Op)) (room : ℕ) (a : BufferedBits) (old new : C) (g h : G) (result : Result PassedRun AllocError) → ((records : List RecordMark) → counted old records new → GathersRecords gathered g records h) → ArePlans definitions plans → IfOk result (λ run. run.room ≤ room)
-    → IfOk result (λ run. (definitions : List (List Op)) → ArePlans definitions plans → (records : List RecordMark) × counted old records new × PassesRecords width definitions room a records run) → IfOk result (λ run. PassesRun gathered width definitions room a g run h)
-counted_gathered counted gathered width plans definitions room a old new g h (Ok run) gathers are less passed = (less, (let p = passed definitions are in (p.0, p.2, gathers p.0 p.1)))
-counted_gathered counted gathered width plans definitions room a old new g h (Err e) gathers are less passed = tt
+pub counted_gathered : {C G : Type 0} (counted : C → List RecordMark → C → Type 0) (gathered : G → List Event → G → Type 0) (width : ℕ) (definitions : List (List Op)) (room : ℕ) (a : BufferedBits) (old new : C) (g h : G) (result : Result PassedRun AllocError) → ((records : List RecordMark) → counted old records new → GathersRecords gathered g records h)
+    → IfOk result (λ run. (records : List RecordMark) × counted old records new × PassesRecords width definitions room a records run) → IfOk result (λ run. PassesRun gathered width definitions room a g run h)
+counted_gathered counted gathered width definitions room a old new g h (Ok run) gathers p = (p.2.less, (p.0, p.2, gathers p.0 p.1))
+counted_gathered counted gathered width definitions room a old new g h (Err e) gathers p = tt

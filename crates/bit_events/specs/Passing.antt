@@ -42,6 +42,16 @@ pub record PassedTo (width : ℕ) (definitions : List (List Op)) (room : ℕ) (a
       → f.definitions ≡ definitions → limits.values - used ≡ room
       → GathersTo collected limits f used a [] (used + (room - left)) b (map notes records)
 
+-- Records that come first were counted, up to bits before which `left` values may still come. So they come behind any others up to the
+-- first bits, and were counted after any others.
+pub record PassesOn {C : Type 0} (counted : C → List RecordMark → C → Type 0) (width : ℕ) (definitions : List (List Op))
+    (old : C) (room : ℕ) (a : BufferedBits) (new : C) (left : ℕ) (b : BufferedBits) : Type 0 where
+  pub records : List RecordMark
+  pub counts : (first : C) (done : List RecordMark) → counted first done old → counted first (done ++ records) new
+  pub passes : (most : ℕ) (first : BufferedBits) (others : List RecordMark)
+      → PassedTo width definitions most first others room a
+      → PassedTo width definitions most first (others ++ records) left b
+
 -- After gathering some events that leave a block open, these records were gathered.
 abbrev pub GathersRecords : {G : Type 0} → (G → List Event → G → Type 0) → G → List RecordMark → G → Type 0
 GathersRecords {G} gathered old records new = (first : G) (done : List Event) → gathered first done old

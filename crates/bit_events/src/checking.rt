@@ -57,10 +57,10 @@ impl Gatherer for Nothing {
         bits: PlacedBits<'_>,
         width: u32,
         plans: &[Plan],
-        _definitions: &InForce,
+        definitions: &InForce,
         room: u64,
     ) -> Result<PassedRun, AllocError> {
-        pass_records(bits, width, plans, room, &mut Uncounted)
+        pass_records(bits, width, plans, definitions, room, &mut Uncounted)
     }
 
     #[inline]

@@ -17,7 +17,7 @@ mod asking_tests;
 
 use crate::gatherer::Gatherer;
 use crate::machine::{Machine, Step};
-use crate::running::{gather_by_turns, loaded_at};
+use crate::running::{gather_records, loaded_at};
 use crate::with_first::WithFirst;
 use bit_abbrev::Planning;
 use bit_fields::{BitReader, BufferedParts, Fault, FieldWidth, Head, Limits, PlacedBits, Source};
@@ -101,7 +101,7 @@ fn gather_innermost<G: Gatherer>(
         return Ok(first);
     }
     let used = &mut machine.used;
-    gather_by_turns(parts, first, loaded, frame, limits, used, gatherer, values)
+    gather_records(parts, first, loaded, frame, limits, used, gatherer, values)
 }
 
 /// How many bits must be buffered for the beginning or the end of a block to be read from the buffer: more than 64 after the longest

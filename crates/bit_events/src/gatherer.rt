@@ -1,4 +1,4 @@
-ghost use Rattle.std.specs.Prelude.{◌≤◌, ℕ, List, [], Some, None, OnOk, OnErr, IfOk};
+ghost use Rattle.std.specs.Prelude.{◌≡◌, ◌≤◌, ℕ, List, [], Some, None, OnOk, OnErr, IfOk, length, true, false};
 ghost use Rattle.bit_grammar.specs.Machine.{enters, defines, notes, leaves};
 ghost use Rattle.bit_fields.specs.PlacedView.{placed};
 ghost use Rattle.bit_abbrev.specs.Plans.{ArePlans};
@@ -7,7 +7,7 @@ ghost use Rattle.bit_events.specs.MachineView.{TookSome};
 ghost use Rattle.bit_events.specs.Passing.{PassesRun};
 
 use crate::passing::PassedRun;
-use bit_abbrev::{Abbrev, Definitions, InForce, Plan};
+use bit_abbrev::{Abbrev, InForce, Plan};
 use bit_fields::{PlacedBits, ValueTaker};
 use std::alloc::AllocError;
 
@@ -86,14 +86,6 @@ pub trait Gatherer {
         true
     }
 
-    /// Whether `pass` may gather a record with this id. These definitions are in force, and the first `planned` of them have plans.
-    #[inline(always)]
-    fn may_pass(&self, id: u32, _definitions: &Definitions<'_>, planned: usize) -> bool
-        requires { 3 ≤ id }
-    {
-        (id - 3) as usize <= planned
-    }
-
     /// Gathers records of the innermost block which come first in these bits: as many as it likes. Their ids have this width, and the
     /// first definitions in force have these plans. They have at most `room` values.
     #[inline(always)]
@@ -112,6 +104,45 @@ pub trait Gatherer {
         ensures fails { OnErr result (fails self.old None self.new) }
     {
         Ok(PassedRun::none(bits, room))
+    }
+
+    /// Whether `few` is called.
+    #[inline(always)]
+    fn takes_few(&self) -> bool {
+        false
+    }
+
+    /// Takes a record as `record` does, with its values in a list: they are at most 64. If it returns `false`, nothing changed, and
+    /// `record` is called for it.
+    #[inline(always)]
+    fn few(
+        &mut self,
+        _id: u32,
+        _code: u64,
+        _values: &[u64],
+        _first: u64,
+        _after: u64,
+    ) -> Result<bool, AllocError>
+        requires few { length _values.now ≤ 64 }
+        ensures gathers { IfOk result (λ taken. taken ≡ true → Gathers gathered self.old (notes
+            (record {
+              abbreviation = _id;
+              code = _code;
+              values = _values.now;
+              first = _first;
+              after = _after;
+            })) self.new) }
+        ensures declines { IfOk result (λ taken. taken ≡ false → self.new ≡ self.old) }
+        ensures fails { OnErr result (fails self.old (Some (notes
+            (record {
+              abbreviation = _id;
+              code = _code;
+              values = _values.now;
+              first = _first;
+              after = _after;
+            }))) self.new) }
+    {
+        Ok(false)
     }
 
     /// Takes the end of the innermost block: the bit after it.

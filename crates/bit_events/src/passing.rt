@@ -7,9 +7,9 @@ ghost use Rattle.bit_grammar.specs.Marks.{RecordMark};
 ghost use Rattle.bit_fields.specs.Buffered.{beyond};
 ghost use Rattle.bit_fields.specs.PlacedView.{placed};
 ghost use Rattle.bit_abbrev.specs.Plans.{ArePlans, PassesOver};
-ghost use Rattle.bit_events.specs.Passing.{CountsOne, PassesRecords, mark_of};
+ghost use Rattle.bit_events.specs.Passing.{CountsOne, PassesOn, PassesRecords, mark_of};
 
-use bit_abbrev::{MARGIN, Passed, Plan, pass_plain};
+use bit_abbrev::{Definitions, InForce, MARGIN, Passed, Plan, pass_by_operands, pass_plain};
 use bit_fields::PlacedBits;
 use std::alloc::AllocError;
 
@@ -76,40 +76,86 @@ impl RunCounter for Uncounted {
     }
 }
 
-/// Passes over one record after its id, which has this width. `None` passes over nothing: the record is then read.
-#[inline(always)]
-fn pass_one(bits: PlacedBits<'_>, width: u32, id: u64, plans: &[Plan], room: u64) -> Option<Passed>
-    requires width { width ≤ 32 }
-    requires id { 3 ≤ id }
-    requires there { 2240 ≤ length (placed bits).bits }
-    ensures passes { IfSome result (λ passed. (first : ℕ) (definitions : List (List Op))
-        → ArePlans definitions plans.now → passed.count ≤ room
-        → PassesOver (entry room first id definitions) (beyond (placed bits.entry) width) passed) }
-    ensures within { IfSome result (λ passed. width + passed.len ≤ length (placed bits.entry).bits) }
-{
-    let fields = bits.load().after(width);
-    if id == 3 {
-        return pass_plain(fields);
+/// Passes over one record.
+trait PassOne: Copy {
+    ghost use Rattle.std.specs.Prelude.{List};
+    ghost use Rattle.bit_grammar.specs.declared.op.Op.{Op};
+
+    // Whether these definitions are in force.
+    ghost knows: { Self → List (List Op) → Type 0 };
+
+    /// Passes over the fields of a record after its id, which has this width. `None` passes over nothing: the record is then read.
+    fn pass_one(self, bits: PlacedBits<'_>, width: u32, id: u64, room: u64) -> Option<Passed>
+        requires width { width ≤ 32 }
+        requires id { 3 ≤ id }
+        requires there { 2240 ≤ length (placed bits).bits }
+        ensures passes { IfSome result (λ passed. (first : ℕ) (definitions : List (List Op))
+            → knows self definitions → passed.count ≤ room
+            → PassesOver (entry room first id definitions) (beyond (placed bits.entry) width) passed) }
+        ensures within { IfSome result (λ passed. width + passed.len ≤ length (placed bits.entry).bits) };
+}
+
+/// By plans of the first definitions.
+#[derive(Clone, Copy)]
+struct ByPlans<'a> {
+    plans: &'a [Plan],
+}
+
+impl<'a> PassOne for ByPlans<'a> {
+    ghost knows = { λ by definitions. ArePlans definitions by.plans.now };
+
+    #[inline(always)]
+    fn pass_one(self, bits: PlacedBits<'_>, width: u32, id: u64, room: u64) -> Option<Passed> {
+        let fields = bits.load().after(width);
+        if id == 3 {
+            return pass_plain(fields);
+        }
+        self.plans.get((id - 4) as usize)?.pass(fields, room)
     }
-    plans.get((id - 4) as usize)?.pass(fields, room)
+}
+
+/// By the operands of definitions.
+#[derive(Clone, Copy)]
+struct ByOperands<'a> {
+    definitions: &'a Definitions<'a>,
+}
+
+impl<'a> PassOne for ByOperands<'a> {
+    ghost knows = { λ by definitions. by.definitions.now ≡ definitions };
+
+    #[inline(always)]
+    fn pass_one(self, bits: PlacedBits<'_>, width: u32, id: u64, room: u64) -> Option<Passed> {
+        if id == 3 {
+            return pass_plain(bits.load().after(width));
+        }
+        let abbrev = self.definitions.get((id - 4) as usize)?;
+        pass_by_operands(bits.after(u64::from(width)), abbrev, room)
+    }
+}
+
+/// Records that were passed over: the bits behind them, how many values may still come, and whether an item comes there that is no
+/// record.
+#[derive(Clone, Copy)]
+struct Passing<'a> {
+    bits: PlacedBits<'a>,
+    room: u64,
+    is_over: bool,
 }
 
 /// Passes over records with abbreviation ids of a width, as long as they are not odd and a margin of bits is there. They have at most
 /// `room` values.
 #[inline(never)]
-pub fn pass_records<C: RunCounter>(
-    bits: PlacedBits<'_>,
+fn pass_run<'a, C: RunCounter, P: PassOne>(
+    bits: PlacedBits<'a>,
     width: u32,
-    plans: &[Plan],
+    by: P,
     room: u64,
     counter: &mut C,
-) -> Result<PassedRun, AllocError>
+) -> Result<Passing<'a>, AllocError>
     requires width { width ≤ 32 }
-    requires none { C.counted counter.old [] counter.old }
-    ensures less { IfOk result (λ run. run.room ≤ room) }
-    ensures passes { IfOk result (λ run. (definitions : List (List Op)) → ArePlans definitions plans.now
-        → (records : List RecordMark) × C.counted counter.old records counter.new
-        × PassesRecords width definitions room (placed bits.entry) records run) }
+    ensures passes { IfOk result (λ run. (definitions : List (List Op)) → P.knows by definitions
+        → PassesOn C.counted width definitions counter.old room (placed bits.entry) counter.new run.room
+        (placed run.bits)) }
 {
     let mut bits = bits;
     let mut room = room;
@@ -120,7 +166,7 @@ pub fn pass_records<C: RunCounter>(
             is_over = true;
             break;
         }
-        let Some(passed) = pass_one(bits, width, id, plans, room) else {
+        let Some(passed) = by.pass_one(bits, width, id, room) else {
             break;
         };
         if passed.count > room {
@@ -135,18 +181,44 @@ pub fn pass_records<C: RunCounter>(
             after: after.position(),
         })?;
         if !counts {
-            return Ok(PassedRun {
-                after: bits.position(),
-                room,
-                is_over,
-            });
+            break;
         }
         room -= passed.count;
         bits = after;
     }
-    Ok(PassedRun {
-        after: bits.position(),
+    Ok(Passing {
+        bits,
         room,
         is_over,
+    })
+}
+
+/// Passes over records with abbreviation ids of a width, as long as they are not odd and a margin of bits is there: first by plans of
+/// the first definitions in force, then by the operands of all. They have at most `room` values.
+#[inline(always)]
+pub fn pass_records<C: RunCounter>(
+    bits: PlacedBits<'_>,
+    width: u32,
+    plans: &[Plan],
+    definitions: &InForce,
+    room: u64,
+    counter: &mut C,
+) -> Result<PassedRun, AllocError>
+    requires width { width ≤ 32 }
+    requires plans { ArePlans definitions.now plans.now }
+    requires none { C.counted counter.old [] counter.old }
+    ensures passes { IfOk result (λ run. (records : List RecordMark) × C.counted counter.old records counter.new
+        × PassesRecords width definitions.now room (placed bits.entry) records run) }
+{
+    let mut run = pass_run(bits, width, ByPlans { plans }, room, counter)?;
+    if !run.is_over {
+        let all = definitions.all();
+        let by = ByOperands { definitions: &all };
+        run = pass_run(run.bits, width, by, run.room, counter)?;
+    }
+    Ok(PassedRun {
+        after: run.bits.position(),
+        room: run.room,
+        is_over: run.is_over,
     })
 }

@@ -18,7 +18,7 @@ ghost use Rattle.bit_events.specs.Runs.{AddsBehind, GathersRun, ReadsTo, SeesRec
 use crate::entry::read_entry;
 use crate::frame::Frame;
 use crate::gatherer::Gatherer;
-use bit_abbrev::{Definitions, InForce, Lookup, MARGIN, Plan};
+use bit_abbrev::{Definitions, FEW, InForce, Layout, Lookup, MARGIN, Plan, read_few};
 use bit_fields::{Buffered, BufferedParts, FieldWidth, Limits, PlacedBits, ValueTaker};
 use std::alloc::AllocError;
 
@@ -97,14 +97,26 @@ pub(crate) fn buffered_item<U, D: Lookup, V: ValueTaker>(
 
 /// Records that were gathered: the bit after the last one, and whether no record comes there that is buffered.
 #[derive(Clone, Copy)]
-struct GatheredRun {
-    after: u64,
+pub(crate) struct GatheredRun {
+    pub(crate) after: u64,
     is_over: bool,
+}
+
+/// Whether a record with this id may be passed over.
+#[inline(always)]
+fn may_pass(id: u32, definitions: &Definitions<'_>) -> bool
+    requires { 3 ≤ id }
+{
+    id == 3
+        || match definitions.get((id - 4) as usize) {
+            Some(abbrev) => abbrev.layout() != Layout::Odd,
+            None => false,
+        }
 }
 
 /// Gathers buffered records one by one, until one comes that may be passed over. The first is read in any case.
 #[inline(never)]
-fn gather_odd<G: Gatherer>(
+pub(crate) fn gather_odd<G: Gatherer>(
     buffered: Buffered<'_>,
     frame: &Frame,
     limits: &Limits,
@@ -127,7 +139,6 @@ fn gather_odd<G: Gatherer>(
     let mut room = limits.values().saturating_sub(spent);
     let mut is_first = true;
     let definitions = frame.definitions.all();
-    let planned = frame.definitions.plans().len();
     loop {
         values.truncate(0);
         let passes = !is_first && buffered.len() >= MARGIN;
@@ -138,7 +149,8 @@ fn gather_odd<G: Gatherer>(
                 is_over: true,
             });
         };
-        if passes && gatherer.may_pass(id, &definitions, planned) {
+        let passes = passes && (gatherer.passes() || gatherer.takes_few());
+        if passes && may_pass(id, &definitions) {
             *used = spent;
             return Ok(GatheredRun {
                 after: first,
@@ -182,6 +194,60 @@ pub(crate) fn loaded_at(first: u64, loaded: u64) -> u64 {
     (first & !7).wrapping_add(64)
 }
 
+/// Gathers records of few values which come first in these bits.
+#[inline(never)]
+fn gather_few<G: Gatherer>(
+    bits: PlacedBits<'_>,
+    frame: &Frame,
+    limits: &Limits,
+    used: &mut u64,
+    gatherer: &mut G,
+) -> Result<GatheredRun, AllocError>
+    requires plain { frame.now.info ≡ None }
+    ensures gathers { IfOk result (λ run. GathersRun G.gathered limits.now frame.now used.old
+        (placed bits.entry) gatherer.old used.new run.after gatherer.new) }
+    ensures stops { OnErr result (StopsRun G.gathered G.fails limits.now frame.now used.old
+        (placed bits.entry) gatherer.old gatherer.new) }
+{
+    let width = u32::from(frame.head.width);
+    let definitions = frame.definitions.all();
+    let mut few = [0; FEW];
+    let mut bits = bits;
+    let mut spent = *used;
+    let mut room = limits.values().saturating_sub(spent);
+    let mut is_over = false;
+    while bits.has(MARGIN) {
+        let id = bits.fixed(width);
+        if id < 3 {
+            is_over = true;
+            break;
+        }
+        let fields = bits.after(u64::from(width));
+        let Some(read) = read_few(fields, id, &definitions, room, &mut few) else {
+            break;
+        };
+        let after = fields.after(read.len);
+        let values = &few[..read.count as usize];
+        if !gatherer.few(
+            id as u32,
+            read.code,
+            values,
+            bits.position(),
+            after.position(),
+        )? {
+            break;
+        }
+        spent += read.count;
+        room -= read.count;
+        bits = after;
+    }
+    *used = spent;
+    Ok(GatheredRun {
+        after: bits.position(),
+        is_over,
+    })
+}
+
 /// Lets the gatherer pass over records from a bit on, if the bits are there as bytes.
 #[inline(always)]
 fn pass_placed<G: Gatherer>(
@@ -211,6 +277,15 @@ fn pass_placed<G: Gatherer>(
             is_over: false,
         });
     };
+    if gatherer.takes_few() {
+        return gather_few(bits, frame, limits, used, gatherer);
+    }
+    if !gatherer.passes() {
+        return Ok(GatheredRun {
+            after: first,
+            is_over: false,
+        });
+    }
     let room = limits.values().saturating_sub(*used);
     let run = gatherer.pass(
         bits,
@@ -241,64 +316,10 @@ pub(crate) fn buffered_from<'a>(parts: BufferedParts<'a>, first: u64, loaded: u6
     buffered
 }
 
-/// Gathers records of a block that is no BLOCKINFO block, as long as they are completely buffered, and returns the bit after the
-/// last one. Readers of all sources share it.
-#[inline(never)]
-pub(crate) fn gather_records<G: Gatherer>(
-    buffered: Buffered<'_>,
-    frame: &Frame,
-    limits: &Limits,
-    used: &mut u64,
-    gatherer: &mut G,
-    values: &mut G::Values,
-) -> Result<u64, AllocError>
-    requires took { TookSome G.Values.took values.old }
-    requires plain { frame.now.info ≡ None }
-    ensures took { TookSome G.Values.took values.new }
-    ensures gathers { IfOk result (λ after. GathersRun G.gathered limits.now frame.now used.old
-        buffered.entry gatherer.old used.new after gatherer.new) }
-    ensures stops { OnErr result (StopsRun G.gathered G.fails limits.now frame.now used.old
-        buffered.entry gatherer.old gatherer.new) }
-{
-    let mut buffered = buffered;
-    let mut first = buffered.position();
-    let mut spent = *used;
-    let mut room = limits.values().saturating_sub(spent);
-    let definitions = frame.definitions.all();
-    loop {
-        values.truncate(0);
-        let Some(id) = record_id(&mut buffered, frame) else {
-            *used = spent;
-            return Ok(first);
-        };
-        let Ok(code) = read_entry::<G, Buffered<'_>, Definitions<'_>, G::Values>(
-            &mut buffered,
-            &definitions,
-            room,
-            id,
-            first,
-            values,
-        ) else {
-            *used = spent;
-            return Ok(first);
-        };
-        let after = buffered.position();
-        let count = values.count();
-        spent += count;
-        room = room.saturating_sub(count);
-        gatherer.record(id, code, values, first, after)?;
-        first = after;
-        if gatherer.passes() {
-            *used = spent;
-            return Ok(first);
-        }
-    }
-}
-
 /// Gathers records of a block that is no BLOCKINFO block from a bit on, as long as they are completely buffered, and returns the bit
 /// after the last one. The gatherer passes over what it can.
 #[inline(always)]
-pub(crate) fn count_records<G: Gatherer>(
+pub(crate) fn gather_records<G: Gatherer>(
     parts: BufferedParts<'_>,
     start: u64,
     loaded: u64,
@@ -326,7 +347,7 @@ pub(crate) fn count_records<G: Gatherer>(
     if run.is_over {
         return Ok(run.after);
     }
-    count_on(
+    gather_on(
         parts, run.after, loaded, frame, limits, used, gatherer, values,
     )
 }
@@ -334,7 +355,7 @@ pub(crate) fn count_records<G: Gatherer>(
 /// The same, if the next record is odd. Whether the last ones are read depends on where the window ends: so it ends at `loaded`, as
 /// that of an exact reader.
 #[inline(never)]
-fn count_on<G: Gatherer>(
+fn gather_on<G: Gatherer>(
     parts: BufferedParts<'_>,
     start: u64,
     loaded: u64,
@@ -365,7 +386,7 @@ fn count_on<G: Gatherer>(
         let buffered = buffered_from(parts, first, window);
         let run = gather_odd(buffered, frame, limits, used, gatherer, values)?;
         first = run.after;
-        if run.is_over || !gatherer.passes() {
+        if run.is_over {
             return Ok(first);
         }
         let run = pass_placed(parts, first, frame, plans, limits, used, gatherer)?;
@@ -373,76 +394,5 @@ fn count_on<G: Gatherer>(
         if run.is_over {
             return Ok(first);
         }
-    }
-}
-
-/// Gathers such records as long as the gatherer passes over records, or as long as it does not.
-#[inline(always)]
-fn gather_turn<G: Gatherer>(
-    parts: BufferedParts<'_>,
-    start: u64,
-    loaded: u64,
-    frame: &Frame,
-    limits: &Limits,
-    used: &mut u64,
-    gatherer: &mut G,
-    values: &mut G::Values,
-) -> Result<u64, AllocError>
-    requires lawful { AreParts parts }
-    requires least { (bits_of_parts parts).position ≤ start }
-    requires there { start - (bits_of_parts parts).position ≤ length (bits_of_parts parts).bits }
-    requires took { TookSome G.Values.took values.old }
-    requires plain { frame.now.info ≡ None }
-    ensures took { TookSome G.Values.took values.new }
-    ensures gathers { IfOk result (λ after. GathersRun G.gathered limits.now frame.now used.old
-        (beyond (bits_of_parts parts.entry) (start - (bits_of_parts parts.entry).position))
-        gatherer.old used.new after gatherer.new) }
-    ensures stops { OnErr result (StopsRun G.gathered G.fails limits.now frame.now used.old
-        (beyond (bits_of_parts parts.entry) (start - (bits_of_parts parts.entry).position))
-        gatherer.old gatherer.new) }
-{
-    if gatherer.passes() {
-        return count_records(parts, start, loaded, frame, limits, used, gatherer, values);
-    }
-    let buffered = buffered_from(parts, start, loaded);
-    gather_records(buffered, frame, limits, used, gatherer, values)
-}
-
-/// Gathers all such records. Where the gatherer begins or ends to pass over records, it goes on: an exact reader takes these bits when
-/// all of them were gathered, and so asks its source where it would if the gatherer passed over none.
-#[inline(always)]
-pub(crate) fn gather_by_turns<G: Gatherer>(
-    parts: BufferedParts<'_>,
-    start: u64,
-    loaded: u64,
-    frame: &Frame,
-    limits: &Limits,
-    used: &mut u64,
-    gatherer: &mut G,
-    values: &mut G::Values,
-) -> Result<u64, AllocError>
-    requires lawful { AreParts parts }
-    requires least { (bits_of_parts parts).position ≤ start }
-    requires there { start - (bits_of_parts parts).position ≤ length (bits_of_parts parts).bits }
-    requires took { TookSome G.Values.took values.old }
-    requires plain { frame.now.info ≡ None }
-    ensures took { TookSome G.Values.took values.new }
-    ensures gathers { IfOk result (λ after. GathersRun G.gathered limits.now frame.now used.old
-        (beyond (bits_of_parts parts.entry) (start - (bits_of_parts parts.entry).position))
-        gatherer.old used.new after gatherer.new) }
-    ensures stops { OnErr result (StopsRun G.gathered G.fails limits.now frame.now used.old
-        (beyond (bits_of_parts parts.entry) (start - (bits_of_parts parts.entry).position))
-        gatherer.old gatherer.new) }
-{
-    let mut first = start;
-    let mut window = loaded;
-    loop {
-        let passes = gatherer.passes();
-        let after = gather_turn(parts, first, window, frame, limits, used, gatherer, values)?;
-        if after == first || gatherer.passes() == passes {
-            return Ok(after);
-        }
-        first = after;
-        window = loaded_at(first, window);
     }
 }

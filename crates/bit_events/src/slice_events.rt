@@ -192,7 +192,8 @@ impl<'a> SliceEvents<'a> {
         let mut passing = Passing { left: most };
         let width = u32::from(frame.head.width);
         let plans = frame.definitions.plans();
-        let Ok(run) = pass_records(bits, width, plans, room, &mut passing) else {
+        let Ok(run) = pass_records(bits, width, plans, &frame.definitions, room, &mut passing)
+        else {
             return 0;
         };
         if passing.left == most {

@@ -168,7 +168,13 @@ first_marked payload limit mask word s high some short m is =
     let within : s < limit = (m.one s (low_set mask s high is)).0 in
     subst (λ (bits : ℕ). FirstReads (suc payload) bits word) (sym k.1) (record { value = payload_number payload (suc k.0) word; reads = λ more p rest. chunks_read payload k.0 word more p rest some (omega (arith, k.1, within, short)) k.2 })
 
-behind_first : (n limit mask word s high : ℕ) → Marks n limit mask word → mask ≡ 2 ^ s * (1 + 2 * high) → Marks n (limit - suc s) high (word / 2 ^ suc s)
+pub lowest_gone : (mask s high : ℕ) → mask ≡ 2 ^ s * (1 + 2 * high) → mask / 2 ^ suc s ≡ high
+lowest_gone mask s high is =
+    let turned : 2 ^ s * (1 + 2 * high) ≡ high * (2 * 2 ^ s) + 2 ^ s = omega arith in
+    let low : 2 ^ s < 2 ^ suc s = omega (arith, pow_next s, pow_pos s) in
+    ap (λ (x : ℕ). x / 2 ^ suc s) (is ∙ turned ∙ ap (λ (x : ℕ). high * x + 2 ^ s) (sym (pow_next s))) ∙ shr_high high (suc s) (2 ^ s) low
+
+pub behind_first : (n limit mask word s high : ℕ) → Marks n limit mask word → mask ≡ 2 ^ s * (1 + 2 * high) → Marks n (limit - suc s) high (word / 2 ^ suc s)
 behind_first n limit mask word s high m is =
     record {
       one = λ i set. let there = m.one (suc s + i) (sym (same i) ∙ set) in (omega (arith, there.0), sym (later i) ∙ ap (λ (x : ℕ). x % n) (let e : suc s + suc i ≡ suc (suc s + i) = omega arith in e) ∙ there.1, bit_behind word (suc s) i ∙ there.2);
@@ -183,14 +189,8 @@ behind_first n limit mask word s high m is =
         let e : suc s + suc i ≡ suc s / n * n + suc i = omega (arith, div-add-mod' (suc s) n, first) in
         ap (λ (x : ℕ). x % n) e ∙ mul-add-mod_self_right (suc s / n) n (suc i)
 
-    shifted : mask / 2 ^ suc s ≡ high
-    shifted =
-        let turned : 2 ^ s * (1 + 2 * high) ≡ high * (2 * 2 ^ s) + 2 ^ s = omega arith in
-        let low : 2 ^ s < 2 ^ suc s = omega (arith, pow_next s, pow_pos s) in
-        ap (λ (x : ℕ). x / 2 ^ suc s) (is ∙ turned ∙ ap (λ (x : ℕ). high * x + 2 ^ s) (sym (pow_next s))) ∙ shr_high high (suc s) (2 ^ s) low
-
     same : (i : ℕ) → bit_at high i ≡ bit_at mask (suc s + i)
-    same i = ap (λ (x : ℕ). bit_at x i) (sym shifted) ∙ bit_behind mask (suc s) i
+    same i = ap (λ (x : ℕ). bit_at x i) (sym (lowest_gone mask s high is)) ∙ bit_behind mask (suc s) i
 
 -- ---- numbers
 

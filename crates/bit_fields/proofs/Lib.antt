@@ -38,3 +38,6 @@ pub mod PlacedNumbers
 pub mod LastChunks
 pub mod Pens
 pub mod WrittenSixes
+pub mod SixRows
+pub mod SixValues
+pub mod SixLoads

@@ -211,7 +211,7 @@ joins_all n len word at place value rest two le here j = j.value_is ∙ ap (λ (
 
 -- ---- a number
 
-number_reads : (n len word value : ℕ) (a : BufferedBits) → 2 ≤ n → bits_of len word ≡ take len a.bits → (here : NumberEnds n len word) → value ≡ payload_number (n - 1) (suc here.count) word → Reads (vbr n) a value (beyond a len)
+pub number_reads : (n len word value : ℕ) (a : BufferedBits) → 2 ≤ n → bits_of len word ≡ take len a.bits → (here : NumberEnds n len word) → value ≡ payload_number (n - 1) (suc here.count) word → Reads (vbr n) a value (beyond a len)
 number_reads n len word value a two front here value_is =
     let p : ℕ = n - 1 in
     let bits : ℕ = suc here.count * suc p in
@@ -222,15 +222,19 @@ number_reads n len word value a two front here value_is =
     let read : Reads (vbr (suc p)) a (payload_number p (suc here.count) word) (beyond a len) = ap (reading (vbr (suc p)) a.position) all ∙ one ∙ ap (λ (k : ℕ). Ok (payload_number p (suc here.count) word, a.position + k, drop len a.bits)) (sym len_is) in
     subst (λ (v : ℕ). Reads (vbr n) a v (beyond a len)) (sym value_is) (subst (λ (m : ℕ). Reads (vbr m) a (payload_number p (suc here.count) word) (beyond a len)) (width n two) read)
 
--- a number that is in a load
-pub near_taken : (n more len word at place value rest : ℕ) (a b : BufferedBits) → 2 ≤ n → len ≤ length a.bits → bits_of len word ≡ take len a.bits → NumberEnds n len word → Joins n len word at place value rest → len ≤ at → b ≡ beyond a len → TakesNumber n more a value b
-near_taken n more len word at place value rest a b two there front here j le b_is = record {
+-- a number of few bits
+pub few_taken : (n more len value : ℕ) (a b : BufferedBits) → len ≤ length a.bits → len ≤ 57 → Reads (vbr n) a value (beyond a len) → b ≡ beyond a len → TakesNumber n more a value b
+few_taken n more len value a b there few seen b_is = record {
   len = len;
   there = there;
   is = b_is;
-  reads = subst (Reads (vbr n) a value) (sym b_is) (number_reads n len word value a two front here (joins_all n len word at place value rest two le here j));
-  near = λ far. absurd (omega (arith, far, here.short));
+  reads = subst (Reads (vbr n) a value) (sym b_is) seen;
+  near = λ far. absurd (omega (arith, far, few));
 }
+
+-- a number that is in a load
+pub near_taken : (n more len word at place value rest : ℕ) (a b : BufferedBits) → 2 ≤ n → len ≤ length a.bits → bits_of len word ≡ take len a.bits → NumberEnds n len word → Joins n len word at place value rest → len ≤ at → b ≡ beyond a len → TakesNumber n more a value b
+near_taken n more len word at place value rest a b two there front here j le b_is = few_taken n more len value a b there here.short (number_reads n len word value a two front here (joins_all n len word at place value rest two le here j)) b_is
 
 -- one that is longer, behind which the bits are there
 pub far_taken : (n more value len : ℕ) (a : BufferedBits) → Reads (vbr n) a value (beyond a len) → more ≤ length (beyond a len).bits → TakesNumber n more a value (beyond a len)

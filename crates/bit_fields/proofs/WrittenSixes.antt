@@ -3,38 +3,23 @@ use Rattle.std.proofs.Common.{◌≡◌, ℕ, zero, suc, ◌+◌, ◌*◌, ◌-�
 use Rattle.std.specs.Int.{w64, bit_not}
 use Rattle.std.proofs.lemmas.List.{append-nil, take_at}
 use Rattle.std.proofs.Math.Seq.{take-add}
-use Rattle.bit_grammar.specs.Bits.{bits_of, bits_of_bytes}
+use Rattle.bit_grammar.specs.Bits.{bits_of}
 use Rattle.bit_grammar.specs.FormatFields.{shortest, shortest_payloads}
-use Rattle.bit_grammar.specs.Grammar.{Fault, Spells, repeat, reading}
+use Rattle.bit_grammar.specs.Grammar.{Fault, repeat}
 use Rattle.bit_grammar.specs.Fields.{vbr}
 use Rattle.bit_grammar.specs.Normal.{values_bits}
-use Rattle.bit_grammar.proofs.Readings.Deciding.{reads}
-use Rattle.bit_grammar.proofs.Readings.Sequences.{made, made-spells}
-use Rattle.bit_grammar.proofs.Words.Fields.{is_vbr, vbr_is, length-chunked, short_few, short_wide}
+use Rattle.bit_grammar.proofs.Words.Fields.{length-chunked, short_few, short_wide}
 use Rattle.bit_fields.specs.Buffered.{BufferedBits, Reads, beyond}
-use Rattle.bit_fields.specs.Pens.{KeepsFront, Puts, TakesNumber, TakesPlain, WritesPlain, WritesSixes}
+use Rattle.bit_fields.specs.Pens.{KeepsFront, Puts, ReadsSixes, TakesNumber, TakesPlain, WritesPlain, WritesSixes}
 use Rattle.bit_fields.specs.Placed.{HasNumbers, HasShortest, bits_at}
 use Rattle.bit_fields.specs.SixBits.{Begins, HasCount, NeedsAll, Shortest}
-use Rattle.bit_fields.proofs.BitLaws.{drop_more}
-use Rattle.bit_fields.proofs.BufferedReads.{reads_passed}
 use Rattle.bit_fields.proofs.LastChunks.{needs_its_last, one_number}
 use Rattle.bit_fields.proofs.LentParts.{parts_is}
 use Rattle.bit_fields.proofs.Pens.{puts_as, puts_keeps, puts_nothing, puts_then}
 use Rattle.bit_fields.proofs.Placing.{beyond_both, front_shown, length_at}
 use Rattle.bit_fields.proofs.PlainPlaces.{shortest_begun, shortest_one}
 use Rattle.bit_fields.proofs.PlainRecords.{plain_taken, repeat_both, values-append}
-
--- ---- a reading at another position
-
-vbr_moves : (p q v : ℕ) (s : List Bool) → Spells (vbr 6) p s v → Spells (vbr 6) q s v
-vbr_moves p q v s h = is_vbr 6 q s v (omega arith) (vbr_is 6 p s v (omega arith) h)
-
-repeat_moves : (count p q : ℕ) (s : List Bool) (vs : List ℕ) → Spells (repeat count (vbr 6)) p s vs → Spells (repeat count (vbr 6)) q s vs
-repeat_moves zero p q s vs h = h
-repeat_moves (suc count) p q s vs h =
-    let m = made (repeat count (vbr 6)) (λ xs. h.2 ∷ xs) (p + length h.0) h.1 vs h.5 in
-    let later = made-spells (repeat count (vbr 6)) (λ xs. h.2 ∷ xs) (q + length h.0) h.1 m.0 (repeat_moves count (p + length h.0) (q + length h.0) h.1 m.0 m.1) in
-    subst (Spells (repeat (suc count) (vbr 6)) q s) (sym m.2) (h.0, h.1, h.2, h.3, vbr_moves p q h.2 h.0 h.4, later)
+use Rattle.bit_fields.proofs.SixRows.{behind_at, row_moved, row_there}
 
 -- ---- lengths
 
@@ -48,9 +33,13 @@ values_few (v ∷ vs) = omega (arith, length-append (shortest 6 v) (values_bits 
 pub sixes_room : (k at after : ℕ) (a b : BufferedBits) (x y : List ℕ) → WritesSixes k a at x after b y → (at ≤ after) × (after ≤ at + 78 * k) × (length y ≡ length x)
 sixes_room k at after a b x y w = (omega (arith, w.puts.ends), omega (arith, w.puts.ends, values_few w.values, w.many), w.puts.same)
 
+-- their values
+sixes_row : (k at after : ℕ) (a b : BufferedBits) (x y : List ℕ) → (w : WritesSixes k a at x after b y) → ReadsSixes w.values a b
+sixes_row k at after a b x y w = record { len = w.len; there = w.there; is = w.is; reads = subst (λ (n : ℕ). Reads (repeat n (vbr 6)) a w.values b) (sym w.many) w.reads }
+
 -- the place after them
 pub sixes_there : (k place to at after : ℕ) (b : BufferedBits) (from x y : List ℕ) → place ≤ 8 * length from → to ≡ b.position → WritesSixes k (bits_at 0 place from) at x after b y → to ≤ 8 * length from
-sixes_there k place to at after b from x y there to_is w = omega (arith, there, to_is, w.there, length_at place from, ap (λ (d : BufferedBits). d.position) w.is)
+sixes_there k place to at after b from x y there to_is w = row_there place to w.values from b there to_is (sixes_row k at after (bits_at 0 place from) b x y w)
 
 pub sixes_keep : (k at after : ℕ) (a b : BufferedBits) (x y : List ℕ) → WritesSixes k a at x after b y → KeepsFront at x y
 sixes_keep k at after a b x y w = puts_keeps (values_bits w.values) at after x y w.puts
@@ -148,34 +137,19 @@ sixes_two one two more at after a b c x y t u there puts = record {
 
 -- ---- at a place of bytes
 
-pub behind_at : (start at len : ℕ) (bytes : List ℕ) → bits_at start (at + len) bytes ≡ beyond (bits_at start at bytes) len
-behind_at start at len bytes = parts_is (start + (at + len)) (start + at + len) (drop (at + len) (bits_of_bytes bytes)) (drop len (drop at (bits_of_bytes bytes))) (omega arith) (sym (drop_more at len (bits_of_bytes bytes)))
-
--- the bits after what was read are those at its place
-pub sixes_at : (k place at after : ℕ) (b : BufferedBits) (from x y : List ℕ) → WritesSixes k (bits_at 0 place from) at x after b y → b ≡ bits_at 0 b.position from
-sixes_at k place at after b from x y w =
-    let place_is : b.position ≡ place + w.len = omega (arith, ap (λ (d : BufferedBits). d.position) w.is) in
-    w.is ∙ sym (behind_at 0 place w.len from) ∙ ap (λ (i : ℕ). bits_at 0 i from) (sym place_is)
-
 -- the same, wherever the bytes stand
 pub sixes_moved : (start k place to at after : ℕ) (b : BufferedBits) (from x y : List ℕ) → to ≡ b.position → WritesSixes k (bits_at 0 place from) at x after b y → WritesSixes k (bits_at start place from) at x after (bits_at start to from) y
 sixes_moved start k place to at after b from x y to_is w =
-    let a : BufferedBits = bits_at 0 place from in
-    let s : List Bool = bits_of_bytes from in
-    let p = reads_passed (repeat k (vbr 6)) a w.values b w.reads in
-    let place_is : to ≡ place + w.len = omega (arith, to_is, ap (λ (d : BufferedBits). d.position) w.is) in
-    let bits_are : b.bits ≡ drop to s = ap (λ (d : BufferedBits). d.bits) (sixes_at k place at after b from x y w) ∙ ap (λ (i : ℕ). drop i s) (sym to_is) in
-    let goes : start + place + length p.0 ≡ start + to = omega (arith, p.2, to_is) in
-    let moved = reads (repeat k (vbr 6)) (start + place) p.0 w.values b.bits (repeat_moves k a.position (start + place) p.0 w.values p.3) in
+    let row = row_moved start place to w.values from b to_is (sixes_row k at after (bits_at 0 place from) b x y w) in
     record {
       values = w.values;
       many = w.many;
-      len = w.len;
-      there = w.there;
-      is = ap (λ (i : ℕ). bits_at start i from) place_is ∙ behind_at start place w.len from;
-      reads = ap (reading (repeat k (vbr 6)) (start + place)) p.1 ∙ moved ∙ ap (λ (q : ℕ). Ok (w.values, q, b.bits)) goes ∙ ap (λ (t : List Bool). Ok (w.values, start + to, t)) bits_are;
+      len = row.len;
+      there = row.there;
+      is = row.is;
+      reads = subst (λ (n : ℕ). Reads (repeat n (vbr 6)) (bits_at start place from) w.values (bits_at start to from)) w.many row.reads;
       puts = w.puts;
-      more = λ some. subst (λ (t : List Bool). 64 ≤ length t) bits_are (w.more some);
+      more = λ some. omega (arith, w.more some, ap (λ (d : BufferedBits). length d.bits) w.is, length-drop w.len (bits_at 0 place from).bits, length_at place from, to_is, ap (λ (d : BufferedBits). d.position) w.is, length_at to from);
     }
 
 -- numbers of a load, behind those that were stored before

@@ -73,6 +73,13 @@ pub record WritesSixes (count : ℕ) (a : BufferedBits) (at : ℕ) (old : List �
   pub puts : Puts (values_bits values) at old after new
   pub more : 0 < count → 64 ≤ length b.bits
 
+-- These values are the numbers in chunks of six bits that come first in buffered bits.
+pub record ReadsSixes (values : List ℕ) (a b : BufferedBits) : Type 0 where
+  pub len : ℕ
+  pub there : len ≤ length a.bits
+  pub is : b ≡ beyond a len
+  pub reads : Reads (repeat (length values) (vbr 6)) a values b
+
 -- A record that is not abbreviated comes first in buffered bits, after its abbreviation id. These bits spell it in a normal form,
 -- with its id.
 pub record TakesPlain (room count : ℕ) (a : BufferedBits) (spelling : List Bool) (b : BufferedBits) : Type 0 where

@@ -18,12 +18,8 @@
 #![tactic(auto)]
 
 mod buffered;
-#[cfg(test)]
-mod buffered_tests;
 mod characters;
 mod expected;
-#[cfg(test)]
-mod expected_tests;
 mod fault;
 mod front;
 mod head;
@@ -33,37 +29,21 @@ mod kept;
 mod limits;
 mod numbers;
 mod packed;
-#[cfg(test)]
-mod packed_tests;
 mod pen;
 mod placed;
-#[cfg(test)]
-mod placed_tests;
 mod reader;
 mod settled;
 mod sink;
 mod six_bits;
-#[cfg(test)]
-mod six_bits_tests;
 mod source;
-#[cfg(test)]
-mod tests;
 mod text;
-#[cfg(test)]
-mod text_tests;
 mod values;
 mod wide;
 mod width;
 mod window;
 mod word;
-#[cfg(test)]
-mod word_tests;
 mod writer;
 mod writer_laws;
-#[cfg(test)]
-mod writer_tests;
-#[cfg(test)]
-mod written_tests;
 
 pub use bit_grammar::{MOST_BYTES, MOST_DEPTH, MOST_VALUES, Reason, Shapes};
 pub use buffered::{Buffered, BufferedParts};

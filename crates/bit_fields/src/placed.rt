@@ -10,6 +10,7 @@ mod bits;
 mod loads;
 mod numbers;
 mod tops;
+mod values;
 
 /// Buffered bits of a stream, from a position on.
 #[derive(Clone, Copy)]

@@ -28,7 +28,9 @@ use Rattle.bit_fields.proofs.PlainRecords.{repeat_both}
 use Rattle.bit_abbrev.specs.Layouts.{IsSingle, AreSingles, HasLayout}
 use Rattle.bit_abbrev.specs.declared.layout.Layout.TheVariants as layout
 use Rattle.bit_abbrev.proofs.Covering.{beyond_both, beyond_none, same_ok, left_is}
-use Rattle.bit_norm.specs.Written.{TakesScalar, HasScalars, WritesElements, WritesRecord, WritesScalars}
+use Rattle.bit_abbrev.specs.Scalars.{TakesScalar, HasScalars}
+use Rattle.bit_abbrev.proofs.Singles.{scalars_then, scalars_one, scalars_run, scalars_many, scalars_same, scalars_forward, left_enough, list_read, coded_read, ListParts, CodedParts}
+use Rattle.bit_norm.specs.Written.{WritesElements, WritesRecord, WritesScalars}
 use Rattle.bit_fields.proofs.Pens.{puts_nothing, puts_then, puts_as, keeps_then}
 use Rattle.bit_norm.proofs.ValueTexts.{values_text-append}
 
@@ -40,75 +42,6 @@ short_bits v = omega (arith, short_length 6 v (omega arith), (short_range 6 v (o
 pub values_most : (vs : List ℕ) → length (values_bits vs) ≤ 78 * length vs
 values_most [] = omega arith
 values_most (v ∷ vs) = omega (arith, values_most vs, short_bits v, length-append (shortest 6 v) (values_bits vs))
-
--- ---- the same rule reads the same
-
-not_ok : {A E : Type 0} (x : A) (y : E) → ◌≡◌ {A = Result A E} (Err y) (Ok x) → ⊥
-not_ok x y e = cc
-
-pub same_read : {A : Type 0} (rule : Grammar A) (a : BufferedBits) (x y : A) (b c : BufferedBits) → Reads rule a x b → Reads rule a y c → (x ≡ y) × (b ≡ c)
-same_read {A} rule a x y b c first second =
-    let same = same_ok (x, b.position, b.bits) (y, c.position, c.bits) (sym first ∙ second) in
-    (ap (λ (z : A × ℕ × List Bool). z.0) same, ap (λ (z : A × ℕ × List Bool). let d : BufferedBits = record { position = z.1; bits = z.2 } in d) same)
-
--- a value, and others after it
-record FirstOf (rule : Grammar ℕ) (count : ℕ) (a : BufferedBits) (values : List ℕ) (b : BufferedBits) : Type 0 where
-  value : ℕ
-  others : List ℕ
-  behind : BufferedBits
-  all : values ≡ value ∷ others
-  first : Reads rule a value behind
-  later : Reads (repeat count rule) behind others b
-
-first_of : (rule : Grammar ℕ) (count : ℕ) (a : BufferedBits) (values : List ℕ) (b : BufferedBits) → Reads (repeat (suc count) rule) a values b → FirstOf rule count a values b
-first_of rule count a values b h = one (reading rule a.position a.bits) refl
-  where
-    two : (x : ℕ × ℕ × List Bool) → reading rule a.position a.bits ≡ Ok x → (r : Result (List ℕ × ℕ × List Bool) Fault) → reading (repeat count rule) x.1 x.2 ≡ r → FirstOf rule count a values b
-    two x is (Err fault) read = absurd (not_ok (values, b.position, b.bits) fault (sym (rw (is, read) refl) ∙ h))
-    two x is (Ok y) read =
-        let same = same_ok (x.0 ∷ y.0, y.1, y.2) (values, b.position, b.bits) (sym (rw (is, read) refl) ∙ h) in
-        record {
-          value = x.0;
-          others = y.0;
-          behind = record { position = x.1; bits = x.2 };
-          all = sym (ap (λ (z : List ℕ × ℕ × List Bool). z.0) same);
-          first = is;
-          later = read ∙ ap (λ (z : List ℕ × ℕ × List Bool). Ok (y.0, z.1, z.2)) same;
-        }
-
-    one : (r : Result (ℕ × ℕ × List Bool) Fault) → reading rule a.position a.bits ≡ r → FirstOf rule count a values b
-    one (Err fault) is = absurd (not_ok (values, b.position, b.bits) fault (sym (rw is refl) ∙ h))
-    one (Ok x) is = two x is (reading (repeat count rule) x.1 x.2) refl
-
--- ---- values of single operands, one after another
-
-pub scalars_then : (ops others : List Op) (a b c : BufferedBits) (values more : List ℕ) → HasScalars ops a values b → HasScalars others b more c → HasScalars (ops ++ others) a (values ++ more) c
-scalars_then [] others a b c values more h later = subst (λ (vs : List ℕ). HasScalars others a (vs ++ more) c) (sym h.0) (subst (λ (x : BufferedBits). HasScalars others x more c) h.1 later)
-scalars_then (op ∷ ops) others a b c values more h later = (h.0, h.1 ++ more, h.2, ap (λ (vs : List ℕ). vs ++ more) h.3, h.4, scalars_then ops others h.2 b c h.1 more h.5 later)
-
-pub scalars_one : (op : Op) (a : BufferedBits) (value : ℕ) (b : BufferedBits) → Reads (scalar op) a value b → HasScalars (op ∷ []) a (value ∷ []) b
-scalars_one op a value b seen = (value, [], b, refl, seen, (refl, refl))
-
-pub scalars_many : (ops : List Op) (a b : BufferedBits) (values : List ℕ) → HasScalars ops a values b → length values ≡ length ops
-scalars_many [] a b values h = ap length h.0
-scalars_many (op ∷ ops) a b values h = ap length h.3 ∙ ap suc (scalars_many ops h.2 b h.1 h.5)
-
-pub scalars_same : (ops : List Op) (a b c : BufferedBits) (values others : List ℕ) → HasScalars ops a values b → HasScalars ops a others c → (values ≡ others) × (b ≡ c)
-scalars_same [] a b c values others first second = (first.0 ∙ sym second.0, first.1 ∙ sym second.1)
-scalars_same (op ∷ ops) a b c values others first second =
-    let one = same_read (scalar op) a first.0 second.0 first.2 second.2 first.4 second.4 in
-    let rest = scalars_same ops first.2 b c first.1 second.1 first.5 (subst (λ (x : BufferedBits). HasScalars ops x second.1 c) (sym one.1) second.5) in
-    (first.3 ∙ ap (λ (v : ℕ). v ∷ first.1) one.0 ∙ ap (λ (vs : List ℕ). second.0 ∷ vs) rest.0 ∙ sym second.3, rest.1)
-
--- numbers in chunks of n bits
-pub scalars_run : (n count : ℕ) (a : BufferedBits) (values : List ℕ) (b : BufferedBits) → Reads (repeat count (vbr n)) a values b → HasScalars (replicate count (Vbr n)) a values b
-unfolding scalar
-scalars_run n zero a values b h =
-    let same = same_ok ([], a.position, a.bits) (values, b.position, b.bits) h in
-    (sym (ap (λ (z : List ℕ × ℕ × List Bool). z.0) same), sym (ap (λ (z : List ℕ × ℕ × List Bool). let d : BufferedBits = record { position = z.1; bits = z.2 } in d) same))
-scalars_run n (suc count) a values b h =
-    let f = first_of (vbr n) count a values b h in
-    (f.value, f.others, f.behind, f.all, f.first, scalars_run n count f.behind f.others b f.later)
 
 -- ---- values that are stored
 
@@ -168,14 +101,6 @@ singles_behind : (count : ℕ) (ops : List Op) → AreSingles ops → AreSingles
 singles_behind zero ops h = h
 singles_behind (suc count) [] h = h
 singles_behind (suc count) (op ∷ ops) h = singles_behind count ops h.1
-
--- the bits that are still needed are behind a field
-left_enough : (others len all left : ℕ) → others ≤ 31 → 64 + 57 * (others + 1) ≤ all → left ≡ all - len → (57 < len → 1888 ≤ left) → 64 + 57 * others ≤ left
-left_enough others len all left few there left_is near =
-    elim (cases_lt 57 len) [
-      | inl long ↦ (let far = near long in omega (arith, far))
-      | inr short ↦ omega (arith, short)
-    ]
 
 -- the values of the first operands were stored, and `rest` is still to come
 pub record FarWritten (ops rest : List Op) (a : BufferedBits) (at : ℕ) (old : List ℕ) (pen : ℕ) (b : BufferedBits) (bytes : List ℕ) : Type 0 where
@@ -251,58 +176,6 @@ pub far_sixes : (ops rest : List Op) (count n : ℕ) (a : BufferedBits) (at : �
     → FarWritten ops (take n (drop count rest)) a at old after c new
 far_sixes ops rest count n a at old pen b bytes after c new n_is some within sixes far writes more =
     several ops rest count n a at old pen b bytes after c new n_is within sixes far (writes_sixes count b pen after c bytes new writes) (omega (arith, some, far.few, more))
-
--- ---- the value of a single operand
-
-scalar_field : (op : Op) (more : ℕ) (a : BufferedBits) (value width : ℕ) (b : BufferedBits) → width ≤ 57 → width ≤ length a.bits → Reads (scalar op) a value (beyond a width) → b ≡ beyond a width → TakesScalar op more a value b
-scalar_field op more a value width b few there seen b_is = record {
-  len = width;
-  there = there;
-  is = b_is;
-  reads = subst (Reads (scalar op) a value) (sym b_is) seen;
-  near = λ long. absurd (omega (arith, few, long));
-}
-
-pub takes_literal : (op : Op) (v more : ℕ) (a : BufferedBits) (value width : ℕ) (b : BufferedBits) → op ≡ Literal v → value ≡ v → width ≡ 0 → b ≡ beyond a width → TakesScalar op more a value b
-unfolding scalar
-takes_literal op v more a value width b op_is value_is none b_is =
-    let e : a.position ≡ a.position + 0 = omega arith in
-    let seen : Reads (scalar (Literal v)) a v (beyond a 0) = ap (λ (p : ℕ). Ok (v, p, a.bits)) e in
-    scalar_field op more a value width b (omega (arith, none)) (omega (arith, none)) (rw (op_is, value_is, none) seen) b_is
-
-pub takes_fixed : (op : Op) (width n m more : ℕ) (a : BufferedBits) (word value : ℕ) (b : BufferedBits) → op ≡ Fixed width → n ≡ width → m ≡ width → value ≡ word → IsSingle op → 64 ≤ length a.bits → bits_of n word ≡ take n a.bits → word < 2 ^ n → b ≡ beyond a m → TakesScalar op more a value b
-unfolding scalar
-takes_fixed op width n m more a word value b op_is n_is m_is value_is single there front below b_is =
-    let few : width ≤ 32 = subst IsSingle op_is single in
-    let all : bits_of width word ≡ take width a.bits = subst (λ (k : ℕ). bits_of k word ≡ take k a.bits) n_is front in
-    let least : word < 2 ^ width = subst (λ (k : ℕ). word < 2 ^ k) n_is below in
-    scalar_field op more a value width b (omega (arith, few)) (omega (arith, few, there)) (rw (op_is, value_is) (fixed_shown width word a (omega (arith, few, there)) all least)) (b_is ∙ ap (beyond a) m_is)
-
-pub takes_number : (op : Op) (width n more : ℕ) (a : BufferedBits) (value : ℕ) (b : BufferedBits) → op ≡ Vbr width → n ≡ width → TakesNumber n more a value b → TakesScalar op more a value b
-unfolding scalar
-takes_number op width n more a value b op_is n_is takes = record {
-  len = takes.len;
-  there = takes.there;
-  is = takes.is;
-  reads = rw (op_is, ← n_is) takes.reads;
-  near = takes.near;
-}
-
-pub takes_character : (op : Op) (more : ℕ) (a : BufferedBits) (code value width : ℕ) (b : BufferedBits) → op ≡ Char6 → 64 ≤ length a.bits → bits_of 6 code ≡ take 6 a.bits → code < 2 ^ 6 → value ≡ character code → width ≡ 6 → b ≡ beyond a width → TakesScalar op more a value b
-unfolding scalar char6
-takes_character op more a code value width b op_is there front below value_is six b_is =
-    let one = fixed_shown 6 code a (omega (arith, there)) front below in
-    let seen : Reads char6 a (character code) (beyond a 6) = rw one refl in
-    scalar_field op more a value 6 b (omega arith) (omega (arith, there)) (rw (op_is, value_is) seen) (b_is ∙ ap (beyond a) six)
-
--- no other operand gives one value
-pub is_character : (op : Op) → IsSingle op → ((v : ℕ) → op ≡ Literal v → ⊥) → ((n : ℕ) → op ≡ Fixed n → ⊥) → ((n : ℕ) → op ≡ Vbr n → ⊥) → op ≡ Char6
-is_character (Literal v) h no_literal no_fixed no_number = absurd (no_literal v refl)
-is_character (Fixed n) h no_literal no_fixed no_number = absurd (no_fixed n refl)
-is_character (Vbr n) h no_literal no_fixed no_number = absurd (no_number n refl)
-is_character Char6 h no_literal no_fixed no_number = refl
-is_character Array h no_literal no_fixed no_number = absurd h
-is_character Blob h no_literal no_fixed no_number = absurd h
 
 -- ---- elements of an array
 
@@ -408,153 +281,6 @@ far_done element count left a at old pen b bytes none far =
     let all : count - left ≡ count = omega (arith, none) in
     subst (λ (n : ℕ). WritesElements element n a at old pen b bytes) all far.writes
 
--- ---- single operands that are passed
-
--- the first operands' values were passed
-pub record FarPassed (ops : List Op) (at : ℕ) (a b : BufferedBits) : Type 0 where
-  pub values : List ℕ
-  pub reads : HasScalars (take at ops) a values b
-  pub there : 64 + 57 * (length ops - at) ≤ length b.bits
-
-pub passes_value : (ops : List Op) (at next : ℕ) (a b : BufferedBits) (value : ℕ) (c : BufferedBits) → length ops ≤ 32 → at < length ops → next ≡ at + 1 → FarPassed ops at a b → TakesScalar (op_at ops at) 1888 b value c → FarPassed ops next a c
-passes_value ops at next a b value c few within next_is far takes =
-    let one : List Op = op_at ops at ∷ [] in
-    let more : take next ops ≡ take at ops ++ one = ap (λ (n : ℕ). take n ops) (let e : next ≡ suc at = omega (arith, next_is) in e) ∙ take-suc ops at (Literal 0) within in
-    let left : length c.bits ≡ length b.bits - takes.len = ap (λ (d : BufferedBits). length d.bits) takes.is ∙ length-drop takes.len b.bits in
-    record {
-      values = far.values ++ value ∷ [];
-      reads = subst (λ (t : List Op). HasScalars t a (far.values ++ value ∷ []) c) (sym more) (scalars_then (take at ops) one a b c far.values (value ∷ []) far.reads (scalars_one (op_at ops at) b value c takes.reads));
-      there = left_enough (length ops - next) takes.len (length b.bits) (length c.bits) (omega (arith, next_is, within, few)) (omega (arith, next_is, within, far.there)) left takes.near;
-    }
-
--- ---- reading a record
-
-single_read : (room : ℕ) (op : Op) (others : List Op) (a : BufferedBits) (value : ℕ) (b : BufferedBits) (values : List ℕ) (c : BufferedBits) → IsSingle op → Reads (scalar op) a value b → Reads (values_of room others) b values c → Reads (values_of room (op ∷ others)) a (value ∷ values) c
-unfolding values_of
-single_read room (Literal v) others a value b values c single first later = rw (first, later) refl
-single_read room (Fixed w) others a value b values c single first later = rw (first, later) refl
-single_read room (Vbr w) others a value b values c single first later = rw (first, later) refl
-single_read room Char6 others a value b values c single first later = rw (first, later) refl
-single_read room Array others a value b values c single first later = absurd single
-single_read room Blob others a value b values c single first later = absurd single
-
-pub scalars_read : (room : ℕ) (ops tail : List Op) (a b c : BufferedBits) (values more : List ℕ) → AreSingles ops → HasScalars ops a values b → Reads (values_of room tail) b more c → Reads (values_of room (ops ++ tail)) a (values ++ more) c
-scalars_read room [] tail a b c values more are h later = subst (λ (vs : List ℕ). Reads (values_of room tail) a (vs ++ more) c) (sym h.0) (subst (λ (x : BufferedBits). Reads (values_of room tail) x more c) h.1 later)
-scalars_read room (op ∷ ops) tail a b c values more are h later =
-    subst (λ (vs : List ℕ). Reads (values_of room (op ∷ (ops ++ tail))) a (vs ++ more) c) (sym h.3) (single_read room op (ops ++ tail) a h.0 h.2 (h.1 ++ more) c are.0 h.4 (scalars_read room ops tail h.2 b c h.1 more are.1 h.5 later))
-
-one_more : (op : Op) (others : List Op) → IsSingle op → singles (op ∷ others) ≡ suc (singles others)
-one_more (Literal v) others single = refl
-one_more (Fixed w) others single = refl
-one_more (Vbr w) others single = refl
-one_more Char6 others single = refl
-one_more Array others single = absurd single
-one_more Blob others single = absurd single
-
-pub singles_are : (ops tail : List Op) → AreSingles ops → singles (ops ++ tail) ≡ length ops + singles tail
-singles_are [] tail are = let e : singles tail ≡ 0 + singles tail = omega arith in e
-singles_are (op ∷ ops) tail are = let one = one_more op (ops ++ tail) are.0 in let rest = singles_are ops tail are.1 in omega (arith, one, rest)
-
-array_read : (room : ℕ) (element : Op) (a : BufferedBits) (count : ℕ) (b : BufferedBits) (values : List ℕ) (c : BufferedBits) → Reads (vbr 6) a count b → count ≤ room → Reads (repeat count (scalar element)) b values c → Reads (values_of room (Array ∷ element ∷ [])) a values c
-unfolding values_of value_count
-array_read room element a count b values c first few later = let holds = le-leb count room few in rw (first, holds, later) refl
-
-no_values : (room : ℕ) (a : BufferedBits) → Reads (values_of room []) a [] a
-unfolding values_of
-no_values room a = refl
-
-record_read : (first room : ℕ) (op : Op) (others : List Op) (a : BufferedBits) (code : ℕ) (b : BufferedBits) (values : List ℕ) (c : BufferedBits) → singles others ≤ room → Reads (scalar op) a code b → Reads (values_of (room - singles others) others) b values c → Reads (abbreviated first room (op ∷ others)) a (record { code = code; values = values }) c
-unfolding abbreviated
-record_read first room op others a code b values c few head seen = let holds = le-leb (singles others) room few in rw (holds, head, seen) refl
-
-pub shaped_read : (first room : ℕ) (ops : List Op) (code : ℕ) (values : List ℕ) (a b : BufferedBits) → has_shape ops ≡ true → Reads (abbreviated first room ops) a (record { code = code; values = values }) b → Reads (by_definition first room ops) a (record { code = code; values = values }) b
-unfolding by_definition
-shaped_read first room ops code values a b shape seen = rw (shape, seen) refl
-
-pub list_read : (first room code count : ℕ) (ops : List Op) (op : Op) (others : List Op) (element : Op) (start a b c d : BufferedBits) (values more : List ℕ) → ops ≡ op ∷ (others ++ Array ∷ element ∷ []) → has_shape ops ≡ true → AreSingles others → length others + count ≤ room → Reads (scalar op) start code a → HasScalars others a values b → Reads (vbr 6) b count c → Reads (repeat count (scalar element)) c more d
-    → Reads (by_definition first room ops) start (record { code = code; values = values ++ more }) d
-list_read first room code count ops op others element start a b c d values more ops_are shape are few head h number elements =
-    let tail : List Op = Array ∷ element ∷ [] in
-    let some : singles (others ++ tail) ≡ length others + 0 = singles_are others tail are in
-    let left : ℕ = room - singles (others ++ tail) in
-    let seen = scalars_read left others tail a b d values more are h (array_read left element b count c more d number (omega (arith, some, few)) elements) in
-    shaped_read first room ops code (values ++ more) start d shape (subst (λ (x : List Op). Reads (abbreviated first room x) start (record { code = code; values = values ++ more }) d) (sym ops_are) (record_read first room op (others ++ tail) start code a (values ++ more) d (omega (arith, some, few)) head seen))
-
-pub coded_read : (first room code : ℕ) (ops : List Op) (op : Op) (others : List Op) (start a b : BufferedBits) (values : List ℕ) → ops ≡ op ∷ others → has_shape ops ≡ true → AreSingles others → length others ≤ room → Reads (scalar op) start code a → HasScalars others a values b
-    → Reads (by_definition first room ops) start (record { code = code; values = values }) b
-coded_read first room code ops op others start a b values ops_are shape are few head h =
-    let none : others ++ [] ≡ others = append-nil others in
-    let some : singles others ≡ length others = ap singles (sym none) ∙ singles_are others [] are ∙ omega arith in
-    let left : ℕ = room - singles others in
-    let joined : Reads (values_of left (others ++ [])) a (values ++ []) b = scalars_read left others [] a b b values [] are h (no_values left b) in
-    let seen : Reads (values_of left others) a values b = subst (λ (os : List Op). Reads (values_of left os) a values b) none (subst (λ (vs : List ℕ). Reads (values_of left (others ++ [])) a vs b) (append-nil values) joined) in
-    shaped_read first room ops code values start b shape (subst (λ (x : List Op). Reads (abbreviated first room x) start (record { code = code; values = values }) b) (sym ops_are) (record_read first room op others start code a values b (omega (arith, some, few)) head seen))
-
--- ---- the parts of a list of operands
-
-pub record ListParts (ops : List Op) (op : Op) (others : List Op) (element : Op) : Type 0 where
-  pub shape : has_shape ops ≡ true
-  pub all : ops ≡ op ∷ (others ++ Array ∷ element ∷ [])
-  pub head : IsSingle op
-  pub are : AreSingles others
-  pub single : IsSingle element
-  pub few : length others ≤ 29
-
-singles_between : (ops others : List Op) (op element : Op) (n : ℕ) → ops ≡ op ∷ (others ++ Array ∷ element ∷ []) → n ≡ length ops - 3 → take n (drop 1 ops) ≡ others
-singles_between ops others op element n all n_is =
-    ap (λ (x : List Op). take n (drop 1 x)) all ∙ take_at others (Array ∷ element ∷ []) n (omega (arith, n_is, ap length all, length-append others (Array ∷ element ∷ [])))
-
-element_last : (ops others : List Op) (op element : Op) (n : ℕ) → ops ≡ op ∷ (others ++ Array ∷ element ∷ []) → n ≡ length ops - 1 → op_at ops n ≡ element
-element_last ops others op element n all n_is =
-    let front : List Op = op ∷ (others ++ Array ∷ []) in
-    let split : ops ≡ front ++ element ∷ [] = all ∙ ap (λ (x : List Op). op ∷ x) (sym (append_assoc others (Array ∷ []) (element ∷ []))) in
-    let place : n ≡ length front = omega (arith, n_is, ap length split, length-append front (element ∷ [])) in
-    ap (λ (i : ℕ). op_at ops i) place ∙ ap (λ (x : List Op). op_at x (length front)) split ∙ get_or-append_seam front element [] (Literal 0)
-
-pub list_parts : (ops given : List Op) (some last : ℕ) → given ≡ ops → HasLayout ops layout.List → some ≡ length given - 3 → last ≡ length given - 1 → ListParts ops (op_at given 0) (take some (drop 1 given)) (op_at given last)
-list_parts ops given some last given_is h some_is last_is =
-    let all : given ≡ h.2 ∷ (h.3 ++ Array ∷ h.4 ∷ []) = given_is ∙ h.5 in
-    let begun : op_at given 0 ≡ h.2 = ap (λ (x : List Op). op_at x 0) all in
-    let between : take some (drop 1 given) ≡ h.3 = singles_between given h.3 h.2 h.4 some all some_is in
-    let end : op_at given last ≡ h.4 = element_last given h.3 h.2 h.4 last all last_is in
-    rw (begun, between, end) (record {
-      shape = h.0;
-      all = h.5;
-      head = h.6;
-      are = h.7;
-      single = h.8;
-      few = omega (arith, h.1, ap length h.5, length-append h.3 (Array ∷ h.4 ∷ []));
-    })
-
-pub record CodedParts (ops : List Op) (op : Op) (others : List Op) : Type 0 where
-  pub shape : has_shape ops ≡ true
-  pub all : ops ≡ op ∷ others
-  pub head : IsSingle op
-  pub are : AreSingles others
-  pub few : length others ≤ 31
-
-pub coded_parts : (ops given : List Op) (some : ℕ) → given ≡ ops → HasLayout ops layout.Coded → some ≡ length given - 1 → CodedParts ops (op_at given 0) (take some (drop 1 given))
-coded_parts ops given some given_is h some_is =
-    let all : given ≡ h.2 ∷ h.3 = given_is ∙ h.4 in
-    let begun : op_at given 0 ≡ h.2 = ap (λ (x : List Op). op_at x 0) all in
-    let behind : take some (drop 1 given) ≡ h.3 = ap (λ (x : List Op). take some (drop 1 x)) all ∙ take_all some h.3 (omega (arith, some_is, ap length all)) in
-    rw (begun, behind) (record {
-      shape = h.0;
-      all = h.4;
-      head = h.5;
-      are = h.6;
-      few = omega (arith, h.1, ap length h.4);
-    })
-
--- the bits behind a code
-pub code_left : (op : Op) (a : BufferedBits) (code : ℕ) (b : BufferedBits) → 2208 ≤ length a.bits → TakesScalar op 1888 a code b → 1888 ≤ length b.bits
-code_left op a code b there takes =
-    let left : length b.bits ≡ length a.bits - takes.len = ap (λ (d : BufferedBits). length d.bits) takes.is ∙ length-drop takes.len a.bits in
-    elim (cases_lt 57 takes.len) [
-      | inl long ↦ takes.near long
-      | inr short ↦ omega (arith, left, short, there)
-    ]
-
 -- ---- a record is stored
 
 -- the front of a record, and its values in two parts
@@ -565,7 +291,7 @@ entry_parts code count values more count_is = rw (count_is, values_text-append v
     regroup x y z v w = simp append_assoc
 
 -- the front of a record, and its values
-entry_whole : (code count : ℕ) (values : List ℕ) → count ≡ length values → (bits_of 2 3 ++ (shortest 6 code ++ shortest 6 count)) ++ values_bits values ≡ bits_of 2 3 ++ entry_text code values
+pub entry_whole : (code count : ℕ) (values : List ℕ) → count ≡ length values → (bits_of 2 3 ++ (shortest 6 code ++ shortest 6 count)) ++ values_bits values ≡ bits_of 2 3 ++ entry_text code values
 entry_whole code count values count_is = rw count_is (regroup (bits_of 2 3) (shortest 6 code) (shortest 6 (length values)) (values_bits values))
   where
     regroup : (x y z v : List Bool) → (x ++ (y ++ z)) ++ v ≡ x ++ (y ++ (z ++ v))
@@ -624,10 +350,6 @@ pub elements_end : (element : Op) (count : ℕ) (a : BufferedBits) (at : ℕ) (o
 elements_end element count a at old after b new writes = (omega (arith, writes.puts.ends, values_most writes.values, writes.many), writes.puts.same)
 
 -- ---- where the bits behind a record are
-
-scalars_forward : (ops : List Op) (a b : BufferedBits) (values : List ℕ) → HasScalars ops a values b → a.position ≤ b.position
-scalars_forward [] a b values h = omega (arith, ap (λ (x : BufferedBits). x.position) h.1)
-scalars_forward (op ∷ ops) a b values h = omega (arith, reads_forward (scalar op) a h.0 h.2 h.4, scalars_forward ops h.2 b h.1 h.5)
 
 pub list_forward : (op : Op) (code : ℕ) (others : List Op) (element : Op) (number : ℕ) (start a b d e : BufferedBits) (at after : ℕ) (x y : List ℕ) → TakesScalar op 1888 start code a → (values : List ℕ) × HasScalars others a values b → TakesNumber 6 64 b number d → WritesElements element number d at x after e y → start.position ≤ e.position
 list_forward op code others element number start a b d e at after x y head passed takes elements =

@@ -25,7 +25,11 @@ use Rattle.bit_events.specs.declared.passing.CountedRecord.{CountedRecord}
 use Rattle.bit_events.specs.Passing.{PassedTo, mark_of}
 use Rattle.bit_events.proofs.Framing.{found_entry, plain_entry}
 use Rattle.bit_events.proofs.PassedOver.{one_passed, some_bits}
-use Rattle.bit_norm.specs.Written.{HasScalars, WritesRecord, WritesRun, WritesScalars, records_bits}
+use Rattle.bit_abbrev.specs.Scalars.{HasScalars}
+use Rattle.bit_abbrev.proofs.Covering.{beyond_none}
+use Rattle.bit_abbrev.proofs.Singles.{coded_read, scalars_many, takes_literal}
+use Rattle.bit_norm.proofs.Written.{entry_whole}
+use Rattle.bit_norm.specs.Written.{WritesRecord, WritesRun, WritesScalars, records_bits}
 use Rattle.bit_fields.proofs.Pens.{puts_as, puts_nothing, puts_then, six_range, takes_back_holds}
 
 -- ---- several records
@@ -96,57 +100,10 @@ plain_read : (room first id : ℕ) (definitions : List (List Op)) (a : BufferedB
 plain_read room first id definitions a value b plain seen =
     took_reads (entry room first id definitions) a value b (plain_entry room first id definitions (reader_at a) (Ok value) (reader_at b) plain (took_at (unabbreviated room) a value b seen))
 
--- ---- values of single operands
-
-single_read : (room : ℕ) (op : Op) (others : List Op) (a : BufferedBits) (value : ℕ) (b : BufferedBits) (values : List ℕ) (c : BufferedBits) → AreSingles (op ∷ others) → Reads (scalar op) a value b → Reads (values_of room others) b values c → Reads (values_of room (op ∷ others)) a (value ∷ values) c
-unfolding values_of
-single_read room (Literal v) others a value b values c are first later = rw (first, later) refl
-single_read room (Fixed w) others a value b values c are first later = rw (first, later) refl
-single_read room (Vbr w) others a value b values c are first later = rw (first, later) refl
-single_read room Char6 others a value b values c are first later = rw (first, later) refl
-single_read room Array others a value b values c are first later = absurd are.0
-single_read room Blob others a value b values c are first later = absurd are.0
-
-one_single : (op : Op) (others : List Op) → AreSingles (op ∷ others) → singles (op ∷ others) ≡ suc (singles others)
-one_single (Literal v) others are = refl
-one_single (Fixed w) others are = refl
-one_single (Vbr w) others are = refl
-one_single Char6 others are = refl
-one_single Array others are = absurd are.0
-one_single Blob others are = absurd are.0
-
-singles_many : (ops : List Op) → AreSingles ops → singles ops ≡ length ops
-singles_many [] are = refl
-singles_many (op ∷ ops) are = one_single op ops are ∙ ap suc (singles_many ops are.1)
-
-scalars_many : (ops : List Op) (a : BufferedBits) (values : List ℕ) (b : BufferedBits) → HasScalars ops a values b → length values ≡ length ops
-scalars_many [] a values b has = ap length has.0
-scalars_many (op ∷ ops) a values b has = ap length has.3 ∙ ap suc (scalars_many ops has.2 has.1 b has.5)
-
-no_values : (room : ℕ) (a : BufferedBits) → Reads (values_of room []) a [] a
-unfolding values_of
-no_values room a = refl
-
-scalars_read : (room : ℕ) (ops : List Op) (a : BufferedBits) (values : List ℕ) (b : BufferedBits) → AreSingles ops → HasScalars ops a values b → Reads (values_of room ops) a values b
-scalars_read room [] a values b are has =
-    subst (λ (vs : List ℕ). Reads (values_of room []) a vs b) (sym has.0) (subst (λ (c : BufferedBits). Reads (values_of room []) a [] c) (sym has.1) (no_values room a))
-scalars_read room (op ∷ ops) a values b are has =
-    subst (λ (vs : List ℕ). Reads (values_of room (op ∷ ops)) a vs b) (sym has.3) (single_read room op ops a has.0 has.2 has.1 b are has.4 (scalars_read room ops has.2 has.1 b are.1 has.5))
-
-record_read : (first room code : ℕ) (others : List Op) (values : List ℕ) (a c : BufferedBits) → singles others ≤ room → Reads (values_of (room - singles others) others) a values c → Reads (abbreviated first room (Literal code ∷ others)) a (record { code = code; values = values }) c
-unfolding abbreviated scalar
-record_read first room code others values a c few seen = let holds = le-leb (singles others) room few in rw (holds, seen) refl
-
-shaped_read : (first room : ℕ) (ops : List Op) (a : BufferedBits) (value : CodeAndValues) (b : BufferedBits) → has_shape ops ≡ true → Reads (abbreviated first room ops) a value b → Reads (by_definition first room ops) a value b
-unfolding by_definition
-shaped_read first room ops a value b shape seen = rw (shape, seen) refl
-
 -- a record of single operands
 pub scalars_record : (first room code : ℕ) (ops others : List Op) (a : BufferedBits) (values : List ℕ) (b : BufferedBits) → ops ≡ Literal code ∷ others → has_shape ops ≡ true → AreSingles others → length others ≤ room → HasScalars others a values b → Reads (by_definition first room ops) a (record { code = code; values = values }) b
 scalars_record first room code ops others a values b is shape are few has =
-    let some : singles others ≤ room = omega (arith, few, singles_many others are) in
-    let seen = record_read first room code others values a b some (scalars_read (room - singles others) others a values b are has) in
-    shaped_read first room ops a (record { code = code; values = values }) b shape (subst (λ (os : List Op). Reads (abbreviated first room os) a (record { code = code; values = values }) b) (sym is) seen)
+    coded_read first room code ops (Literal code) others a a b values is shape are few (takes_literal (Literal code) code 0 a code 0 a refl refl refl (sym (beyond_none a))).reads has
 
 -- ---- layouts
 
@@ -178,16 +135,6 @@ singles_parts ops code has first =
 
 -- ---- the text of a record
 
-front_and_values : (code count : ℕ) (values : List ℕ) → length values ≡ count → (bits_of 2 3 ++ (shortest 6 code ++ shortest 6 count)) ++ values_bits values ≡ bits_of 2 3 ++ entry_text code values
-front_and_values code count values many =
-    let x = bits_of 2 3 in
-    let y = shortest 6 code in
-    let z = shortest 6 count in
-    let v = values_bits values in
-    append_assoc x (y ++ z) v
-    ∙ ap (λ (s : List Bool). x ++ s) (append_assoc y z v)
-    ∙ ap (λ (n : ℕ). x ++ (y ++ (shortest 6 n ++ v))) (sym many)
-
 -- the front of a record is short
 pub front_length : (code count : ℕ) → length (bits_of 2 3 ++ (shortest 6 code ++ shortest 6 count)) ≤ 158
 front_length code count = omega (arith, length-append (bits_of 2 3) (shortest 6 code ++ shortest 6 count), length-append (shortest 6 code) (shortest 6 count), length-bits_of 2 3, (six_range code).1, (six_range count).1)
@@ -213,7 +160,7 @@ pub singles_next : (width : ℕ) (definitions : List (List Op)) (left : ℕ) (b 
     → 4 ≤ id → Reads (fixed width) b id (beyond b width) → fields ≡ beyond b width → slice_get definitions (id - 4) ≡ Some ops → has_shape ops ≡ true → ops ≡ Literal code ∷ others → AreSingles others → length others ≡ count → count ≤ left
     → Puts (bits_of 2 3 ++ (shortest 6 code ++ shortest 6 count)) mid old at begun → WritesScalars others fields at begun after c new → NextRecord width definitions left b mid old after count c new
 singles_next width definitions left b mid old at begun after count c new id code ops others fields most id_reads place found shape is are many few front writes =
-    let all : length writes.values ≡ count = scalars_many others fields writes.values c writes.reads ∙ many in
+    let all : length writes.values ≡ count = scalars_many others fields c writes.values writes.reads ∙ many in
     record {
       id = id;
       code = code;
@@ -224,7 +171,7 @@ singles_next width definitions left b mid old at begun after count c new id code
       id_reads = id_reads;
       reads = found_read left b.position id definitions ops (beyond b width) (record { code = code; values = writes.values }) c (let other : id ≢ 3 = omega (arith, most) in other) found
           (scalars_record b.position left code ops others (beyond b width) writes.values c is shape are (omega (arith, many, few)) (subst (λ (x : BufferedBits). HasScalars others x writes.values c) place writes.reads));
-      puts = puts_as ((bits_of 2 3 ++ (shortest 6 code ++ shortest 6 count)) ++ values_bits writes.values) (bits_of 2 3 ++ entry_text code writes.values) mid after old new (front_and_values code count writes.values all)
+      puts = puts_as ((bits_of 2 3 ++ (shortest 6 code ++ shortest 6 count)) ++ values_bits writes.values) (bits_of 2 3 ++ entry_text code writes.values) mid after old new (entry_whole code count writes.values (sym all))
           (puts_then (bits_of 2 3 ++ (shortest 6 code ++ shortest 6 count)) (values_bits writes.values) mid at after old begun new front writes.puts);
     }
 

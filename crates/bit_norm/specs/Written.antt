@@ -1,5 +1,5 @@
 -- Records that are read from buffered bits and stored at a position, as a normal form spells them.
-use Rattle.std.specs.Prelude.{◌≡◌, ℕ, ◌<◌, ◌≤◌, Bool, List, [], ◌∷◌, ◌++◌, length}
+use Rattle.std.specs.Prelude.{◌≡◌, ℕ, ◌≤◌, Bool, List, [], ◌∷◌, ◌++◌, length}
 use Rattle.bit_grammar.specs.declared.op.Op.{Op}
 use Rattle.bit_grammar.specs.Bits.{bits_of}
 use Rattle.bit_grammar.specs.Grammar.{Grammar, repeat}
@@ -9,26 +9,13 @@ use Rattle.bit_grammar.specs.Record.{scalar}
 use Rattle.bit_grammar.specs.Terms.{CodeAndValues}
 use Rattle.bit_fields.specs.Buffered.{BufferedBits, Reads, beyond}
 use Rattle.bit_fields.specs.Pens.{Puts}
+use Rattle.bit_abbrev.specs.Scalars.{HasScalars}
 use Rattle.bit_events.specs.Passing.{PassedTo}
 
 -- the bits of records in a normal form, each with its abbreviation id
 abbrev pub records_bits : List RecordMark → List Bool
 records_bits [] = []
 records_bits (mark ∷ marks) = (bits_of 2 3 ++ entry_text mark.code mark.values) ++ records_bits marks
-
--- the value of an operand comes first; so many bits are behind it, if it takes more than 57
-pub record TakesScalar (op : Op) (more : ℕ) (a : BufferedBits) (value : ℕ) (b : BufferedBits) : Type 0 where
-  pub len : ℕ
-  pub there : len ≤ length a.bits
-  pub is : b ≡ beyond a len
-  pub reads : Reads (scalar op) a value b
-  pub near : 57 < len → more ≤ length b.bits
-
--- the value of each operand comes first, in order
-abbrev pub HasScalars : List Op → BufferedBits → List ℕ → BufferedBits → Type 0
-HasScalars [] a values b = (values ≡ []) × (b ≡ a)
-HasScalars (op ∷ ops) a values b = (value : ℕ) × (others : List ℕ) × (c : BufferedBits)
-    × (values ≡ value ∷ others) × Reads (scalar op) a value c × HasScalars ops c others b
 
 -- The value of each operand was read and stored at a position.
 pub record WritesScalars (ops : List Op) (a : BufferedBits) (at : ℕ) (old : List ℕ) (after : ℕ)

@@ -348,18 +348,6 @@ impl<'a> FormBuilder<'a> {
     }
 }
 
-/// Whether a record with this id may be added with others at once.
-#[inline(always)]
-fn may_pass_run(id: u32, definitions: &Definitions<'_>) -> bool
-    requires { 3 ≤ id }
-{
-    id == 3
-        || match definitions.get((id - 4) as usize) {
-            Some(abbrev) => abbrev.layout() != Layout::Odd,
-            None => false,
-        }
-}
-
 impl<'a> Gatherer for FormBuilder<'a> {
     ghost use Rattle.bit_norm.specs.Building.{IsFormOf};
 
@@ -408,11 +396,6 @@ impl<'a> Gatherer for FormBuilder<'a> {
     #[inline(always)]
     fn by_plans(&self) -> bool {
         false
-    }
-
-    #[inline(always)]
-    fn may_pass(&self, id: u32, definitions: &Definitions<'_>, _planned: usize) -> bool {
-        may_pass_run(id, definitions)
     }
 
     #[inline(always)]

@@ -8,20 +8,14 @@ ghost use Rattle.bit_abbrev.specs.declared.layout.Layout.TheVariants as layout;
 ghost use Rattle.bit_fields.specs.Pens.{KeepsFront};
 ghost use Rattle.bit_fields.specs.Placed.{bits_at};
 ghost use Rattle.bit_fields.specs.PlacedView.{placed};
-ghost use Rattle.bit_norm.specs.Written.{TakesScalar, HasScalars, WritesElements, WritesRecord, WritesRun, WritesScalars};
+ghost use Rattle.bit_norm.specs.Written.{WritesElements, WritesRecord, WritesRun, WritesScalars};
 
-use bit_abbrev::{Abbrev, Definitions, Layout, MARGIN};
-use bit_fields::{PlacedBits, character, put, put_front, put_number, put_two, take_back};
+use bit_abbrev::{Abbrev, Definitions, FIELDS, Layout, MARGIN, MOST_VALUES, pass_ops, value_of};
+use bit_fields::{PlacedBits, put, put_front, put_number, put_two, take_back};
 use bit_grammar::Op;
-
-/// How many values a record has at most that is stored so.
-const MOST_VALUES: u64 = 65536;
 
 /// How many bits of room a record of at most 31 values takes at most, with the eight bytes that its last number is stored into.
 pub(crate) const SHORT: u64 = 2800;
-
-/// How many bits have to be behind a number that has more than 57: a load, and 32 fields of at most 57 bits.
-const FIELDS: u64 = 64 + 57 * 32;
 
 /// Why a run ends.
 #[derive(Clone, Copy, PartialEq, Eq)]
@@ -65,22 +59,6 @@ fn sixes_of(ops: &[Op]) -> usize
         run += 1;
     }
     run
-}
-
-/// The value of a single operand, and the bits after its field.
-#[inline(always)]
-fn value_of<'a>(bits: PlacedBits<'a>, op: Op) -> Option<(u64, PlacedBits<'a>)>
-    requires single { IsSingle op }
-    requires there { 64 ≤ length (placed bits).bits }
-    ensures { IfSome result (λ read. TakesScalar op 1888 (placed bits.entry) read.0 (placed read.1)) }
-{
-    let (value, width) = match op {
-        Op::Literal(value) => (value, 0),
-        Op::Fixed(width) => (bits.front(u32::from(width)), u64::from(width)),
-        Op::Vbr(width) => return bits.near_number(u32::from(width), FIELDS),
-        _ => (character(bits.front(6)), 6),
-    };
-    Some((value, bits.after(width)))
 }
 
 /// Stores the values of single operands. Gives the position after them, and the bits behind their fields.
@@ -131,24 +109,6 @@ fn write_ops<'a>(
         rest = others;
     }
     Some((pen, bits))
-}
-
-/// The bits behind the fields of single operands.
-#[inline(always)]
-fn pass_ops<'a>(fields: PlacedBits<'a>, ops: &[Op]) -> Option<PlacedBits<'a>>
-    requires singles { AreSingles ops.now }
-    requires few { length ops.now ≤ 32 }
-    requires there { 64 + 57 * length ops.now ≤ length (placed fields).bits }
-    ensures passes { IfSome result (λ bits. (values : List ℕ) × HasScalars ops.now (placed fields.entry)
-        values (placed bits)) }
-    ensures more { IfSome result (λ bits. 64 ≤ length (placed bits).bits) }
-{
-    let mut bits = fields;
-    for op in ops {
-        let (_, after) = value_of(bits, *op)?;
-        bits = after;
-    }
-    Some(bits)
 }
 
 /// Stores the elements of an array, two at a time. Gives the position after them, and the bits behind their fields.

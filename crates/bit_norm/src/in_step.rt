@@ -421,13 +421,14 @@ impl<'a> Comparer<'a> {
         bits: PlacedBits<'_>,
         width: u32,
         plans: &[Plan],
+        definitions: &InForce,
         room: u64,
     ) -> Result<PassedRun, AllocError>
         requires width { width ≤ 32 }
         requires found { self.old.compared.found ≡ None }
         requires some { 0 < self.old.passed_to }
-        ensures { (definitions : List (List Op)) → ArePlans definitions plans.now
-            → IfOk result (λ run. PassesRun Matches width definitions room (placed bits.entry)
+        requires plans { ArePlans definitions.now plans.now }
+        ensures { IfOk result (λ run. PassesRun Matches width definitions.now room (placed bits.entry)
             self.old run self.new) }
     {
         let mut equal = EqualRecords {
@@ -437,7 +438,7 @@ impl<'a> Comparer<'a> {
             items: self.walk.items,
             ended: self.second_ended,
         };
-        let run = pass_records(bits, width, plans, room, &mut equal)?;
+        let run = pass_records(bits, width, plans, definitions, room, &mut equal)?;
         self.passed = equal.passed;
         self.walk.items = equal.items;
         self.first_ended = equal.ended;
@@ -679,16 +680,16 @@ impl<'a> Gatherer for Comparer<'a> {
         bits: PlacedBits<'_>,
         width: u32,
         plans: &[Plan],
-        _definitions: &InForce,
+        definitions: &InForce,
         room: u64,
     ) -> Result<PassedRun, AllocError> {
         if self.passed_to == 0 {
             return Ok(PassedRun::none(bits, room));
         }
         if self.found.is_some() {
-            return pass_records(bits, width, plans, room, &mut Uncounted);
+            return pass_records(bits, width, plans, definitions, room, &mut Uncounted);
         }
-        self.pass_equal(bits, width, plans, room)
+        self.pass_equal(bits, width, plans, definitions, room)
     }
 
     fn leave(&mut self, after: u64) -> Result<(), AllocError> {

@@ -170,13 +170,19 @@ impl Gatherer for Counter {
         bits: PlacedBits<'_>,
         width: u32,
         plans: &[Plan],
-        _definitions: &InForce,
+        definitions: &InForce,
         room: u64,
     ) -> Result<PassedRun, AllocError> {
         match self.open.last() {
-            Some(block) => self
-                .rows
-                .pass(block.id, block.place, bits, width, plans, room),
+            Some(block) => self.rows.pass(
+                block.id,
+                block.place,
+                bits,
+                width,
+                plans,
+                definitions,
+                room,
+            ),
             None => Ok(PassedRun::none(bits, room)),
         }
     }

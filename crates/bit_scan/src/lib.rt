@@ -23,17 +23,11 @@ mod lines;
 mod links;
 mod listing;
 mod printer;
-#[cfg(test)]
-mod puts_tests;
 mod record_lines;
 mod reporting;
 mod rows;
 mod showing;
 mod telling;
-#[cfg(test)]
-mod telling_tests;
-#[cfg(test)]
-mod tests;
 mod text_buffer;
 
 pub use analysing::analyse;

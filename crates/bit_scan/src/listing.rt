@@ -300,6 +300,32 @@ impl<'a, K: Sink> Gatherer for ListingWriter<'a, K> {
         Ok(())
     }
 
+    #[inline(always)]
+    fn takes_few(&self) -> bool {
+        true
+    }
+
+    #[inline(always)]
+    fn few(
+        &mut self,
+        _id: u32,
+        code: u64,
+        values: &[u64],
+        _first: u64,
+        _after: u64,
+    ) -> Result<bool, AllocError> {
+        if !self.standing.leaves_record(code) {
+            return Ok(true);
+        }
+        match self.printer.record_line(self.around, code, values) {
+            Ok(is_added) => Ok(is_added),
+            Err(fault) => {
+                self.stopped = Some(fault);
+                Err(AllocError)
+            }
+        }
+    }
+
     fn leave(&mut self, after: u64) -> Result<(), AllocError> {
         self.write(Event::Leave { after })
     }

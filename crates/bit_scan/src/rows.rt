@@ -14,7 +14,7 @@ ghost use Rattle.bit_events.specs.Passing.{PassesRecords};
 ghost use Rattle.bit_scan.specs.Rows.{block_tally, block_tallies, rows_after, AddsToRow, CountsInRow};
 
 use crate::links::{Keyed, Spot, find, is_at, lead};
-use bit_abbrev::Plan;
+use bit_abbrev::{InForce, Plan};
 use bit_events::{CountedRecord, PassedRun, RunCounter, pass_records};
 use bit_fields::PlacedBits;
 use std::alloc::{AllocError, Global};
@@ -301,17 +301,17 @@ impl BlockRow {
         bits: PlacedBits<'_>,
         width: u32,
         plans: &[Plan],
+        definitions: &InForce,
         room: u64,
     ) -> Result<PassedRun, AllocError>
-        requires { width ≤ 32 }
-        ensures less { IfOk result (λ run. run.room ≤ room) }
-        ensures passes { (definitions : List (List Op)) → ArePlans definitions plans.now
-            → IfOk result (λ run. (records : List RecordMark)
+        requires width { width ≤ 32 }
+        requires plans { ArePlans definitions.now plans.now }
+        ensures { IfOk result (λ run. (records : List RecordMark)
             × CountsInRow self.old records self.new
-            × PassesRecords width definitions room (placed bits.entry) records run) }
+            × PassesRecords width definitions.now room (placed bits.entry) records run) }
     {
         let mut counter = RowCounter { row: self, places };
-        pass_records(bits, width, plans, room, &mut counter)
+        pass_records(bits, width, plans, definitions, room, &mut counter)
     }
 }
 
@@ -353,22 +353,29 @@ fn pass_at(
     bits: PlacedBits<'_>,
     width: u32,
     plans: &[Plan],
+    definitions: &InForce,
     room: u64,
 ) -> Result<PassedRun, AllocError>
     requires within { place < length rows.old }
     requires width { width ≤ 32 }
+    requires plans { ArePlans definitions.now plans.now }
     ensures keys { keys_of rows.new ≡ keys_of rows.old }
-    ensures less { IfOk result (λ run. run.room ≤ room) }
-    ensures passes { (definitions : List (List Op)) → ArePlans definitions plans.now
-        → IfOk result (λ run. (records : List RecordMark)
-        × PassesRecords width definitions room (placed bits.entry) records run
+    ensures passes { IfOk result (λ run. (records : List RecordMark)
+        × PassesRecords width definitions.now room (placed bits.entry) records run
         × ((id : ℕ) (tallies : List BlockTally) → AreDistinct (keys_of rows.old)
         → slice_get (keys_of rows.old) place ≡ Some id
         → block_tallies rows.old ≡ cut_rows tallies
         → block_tallies rows.new ≡ cut_rows (rows_after records id tallies))) }
 {
     let (_, row) = &mut rows[place];
-    row.pass(&mut places[place % 32], bits, width, plans, room)
+    row.pass(
+        &mut places[place % 32],
+        bits,
+        width,
+        plans,
+        definitions,
+        room,
+    )
 }
 
 /// Begins the row of an id that has none, at the end, with what an event adds, and returns its place.
@@ -478,13 +485,13 @@ impl BlockRows {
         bits: PlacedBits<'_>,
         width: u32,
         plans: &[Plan],
+        definitions: &InForce,
         room: u64,
     ) -> Result<PassedRun, AllocError>
-        requires { width ≤ 32 }
-        ensures less { IfOk result (λ run. run.room ≤ room) }
-        ensures passes { (definitions : List (List Op)) → ArePlans definitions plans.now
-            → IfOk result (λ run. (records : List RecordMark)
-            × PassesRecords width definitions room (placed bits.entry) records run
+        requires width { width ≤ 32 }
+        requires plans { ArePlans definitions.now plans.now }
+        ensures { IfOk result (λ run. (records : List RecordMark)
+            × PassesRecords width definitions.now room (placed bits.entry) records run
             × ((tallies : List BlockTally) → block_tallies self.old ≡ cut_rows tallies
             → block_tallies self.new ≡ cut_rows (rows_after records id tallies))) }
     {
@@ -498,6 +505,7 @@ impl BlockRows {
             bits,
             width,
             plans,
+            definitions,
             room,
         )
     }

@@ -1,9 +1,10 @@
 //! The events of an input as lines, written as they are read.
 
-ghost use Rattle.std.specs.Prelude.{◌≡◌, ◌≤◌, ◌<◌, ◌+◌, ◌^◌, ◌++◌, IfSome, OnOk, [], codes, flat_map, length, OnErr, Some, None};
+ghost use Rattle.std.specs.Prelude.{◌≡◌, ℕ, ◌≤◌, ◌<◌, ◌+◌, ◌^◌, ◌++◌, IfSome, OnOk, [], codes, flat_map, length, OnErr, Some, None};
 ghost use Rattle.std.proofs.Math.ListN.{replicate};
 ghost use Rattle.bit_grammar.specs.EventTexts.{line_at, op_text, ops_text, shown_values, noted_text, event_line};
 ghost use Rattle.bit_grammar.specs.Texts.{values_text};
+ghost use Rattle.bit_grammar.specs.Machine.{notes};
 ghost use Rattle.bit_grammar.specs.Steps.{open_after};
 ghost use Rattle.bit_grammar.specs.declared.op.Op.{Op};
 ghost use Rattle.bit_fields.specs.Opening.{head_told};
@@ -506,6 +507,84 @@ fn write_last<K: Sink>(printer: &mut Printer<K>, format: Format, fault: Fault) -
     }
 }
 
+/// The values of a record that are shown, of few.
+#[inline(always)]
+fn shown_few(values: ValueDisplay, few: &[u64]) -> &[u64]
+    requires { length few.now ≤ 64 }
+    ensures shown { values_text result.now ≡ shown_values values few.now }
+    ensures few { length result.now ≤ 64 }
+{
+    match values {
+        ValueDisplay::Shown => few,
+        ValueDisplay::LeftOut => &[],
+    }
+}
+
+/// Writes the line of a record of few values at once, unless the buffered text is to be put then. Returns whether it did.
+#[inline(always)]
+fn write_noted_few<K: Sink>(
+    printer: &mut Printer<K>,
+    around: u32,
+    noted: Noted,
+    values: ValueDisplay,
+    few: &[u64],
+) -> Result<bool, Fault>
+    requires count { noted.count ≡ length few.now }
+    requires few { length few.now ≤ 64 }
+    ensures { PrintsWhole (line_at noted.first around
+        (noted_text values noted.code noted.abbreviation few.now)) printer.old result printer.new }
+{
+    printer.noted_record(around, noted, shown_few(values, few))
+}
+
+/// The same as JSON.
+#[inline(always)]
+fn write_json_few<K: Sink>(
+    printer: &mut Printer<K>,
+    around: u32,
+    noted: Noted,
+    values: ValueDisplay,
+    few: &[u64],
+) -> Result<bool, Fault>
+    requires { length few.now ≤ 64 }
+    ensures { PrintsWhole (noted_json values
+        (noted_fields around noted.first noted.code noted.abbreviation noted.count) few.now)
+        printer.old result printer.new }
+{
+    match values {
+        ValueDisplay::Shown => printer.json_record(around, noted, few),
+        ValueDisplay::LeftOut => {
+            printer.noted_line(around, noted)?;
+            Ok(true)
+        }
+    }
+}
+
+/// The same in either format.
+#[inline(always)]
+fn write_few<K: Sink>(
+    printer: &mut Printer<K>,
+    around: u32,
+    noted: Noted,
+    few: &[u64],
+    style: EventStyle,
+) -> Result<bool, Fault>
+    requires count { noted.count ≡ length few.now }
+    requires few { length few.now ≤ 64 }
+    ensures { (after : ℕ) → PrintsWhole (styled_event style around (notes (record {
+      abbreviation = noted.abbreviation;
+      code = noted.code;
+      values = few.now;
+      first = noted.first;
+      after = after;
+    }))) printer.old result printer.new }
+{
+    match style.format {
+        Format::Text => write_noted_few(printer, around, noted, style.values, few),
+        Format::JsonLines => write_json_few(printer, around, noted, style.values, few),
+    }
+}
+
 /// Writes the lines of events as they are gathered.
 struct EventWriter<K: Sink> {
     alloc: Global,
@@ -603,6 +682,35 @@ impl<K: Sink> Gatherer for EventWriter<K> {
             first,
             after,
         })
+    }
+
+    #[inline(always)]
+    fn takes_few(&self) -> bool {
+        true
+    }
+
+    #[inline(always)]
+    fn few(
+        &mut self,
+        id: u32,
+        code: u64,
+        values: &[u64],
+        first: u64,
+        after: u64,
+    ) -> Result<bool, AllocError> {
+        let noted = Noted {
+            first,
+            code,
+            abbreviation: id,
+            count: values.len() as u64,
+        };
+        match write_few(&mut self.printer, self.around, noted, values, self.style) {
+            Ok(is_added) => Ok(is_added),
+            Err(fault) => {
+                self.stopped = Some(fault);
+                Err(AllocError)
+            }
+        }
     }
 
     fn leave(&mut self, after: u64) -> Result<(), AllocError> {

@@ -18,8 +18,6 @@ mod line_end;
 mod numbers;
 mod reason;
 mod telling;
-#[cfg(test)]
-mod tests;
 
 pub use assembling::assemble;
 pub use fault::AssembleFault;

@@ -7,18 +7,12 @@
 //! marked tree. `tree_with` makes the tree that a setting leaves.
 #![tactic(auto)]
 
-#[cfg(test)]
-mod builder_tests;
 mod copying;
 mod document;
 mod judging;
 mod marked;
 mod marked_builder;
 mod reading;
-#[cfg(test)]
-mod reading_tests;
-#[cfg(test)]
-mod tests;
 mod tree;
 
 pub use bit_events::{Event, Events};

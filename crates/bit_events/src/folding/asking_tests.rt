@@ -8,7 +8,7 @@ use crate::events_tests::{Pieces, pieces_of};
 use crate::folding_tests::Text;
 use crate::machine::Machine;
 use crate::passing::{CountedRecord, PassedRun, RunCounter, pass_records};
-use crate::running::gather_records;
+use crate::running::gather_odd;
 use crate::with_first::WithFirst;
 use crate::{Gatherer, fold};
 use bit_abbrev::{Abbrev, InForce, Plan, Planning};
@@ -50,8 +50,8 @@ impl<S: Source, G: Gatherer> Folding<S, G> {
         let buffered = Buffered::new(parts);
         let start = buffered.position();
         let (used, gatherer) = (&mut self.machine.used, &mut self.gatherer);
-        match gather_records(buffered, frame, limits, used, gatherer, values) {
-            Ok(after) => self.reader.catch_up(after.saturating_sub(start)),
+        match gather_odd(buffered, frame, limits, used, gatherer, values) {
+            Ok(run) => self.reader.catch_up(run.after.saturating_sub(start)),
             Err(_) => Err(self.reader.fail(Fault::Memory)),
         }
     }
@@ -324,10 +324,10 @@ impl Gatherer for Counted {
         bits: PlacedBits<'_>,
         width: u32,
         plans: &[Plan],
-        _definitions: &InForce,
+        definitions: &InForce,
         room: u64,
     ) -> Result<PassedRun, AllocError> {
-        pass_records(bits, width, plans, room, self)
+        pass_records(bits, width, plans, definitions, room, self)
     }
 
     fn leave(&mut self, after: u64) -> Result<(), AllocError> {

@@ -19,14 +19,14 @@ returns-clause-gathers g c =
     let m = c.args.machine.now in
     let from = beyond (bits_of_parts c.args.parts) (c.args.first - c.args.parts.position) in
     let f = c.in-Some.frame.now in
-    let used = c.gather_by_turns.new.used in
-    let h = c.gather_by_turns.new.gatherer in
+    let used = c.gather_records.new.used in
+    let h = c.gather_records.new.gatherer in
     let k = length m.frames.items - 1 in
     let items = rw c.deref.ensures.value at c.in-Some.ensures.item in
     let split : frames_shown m.frames.items ≡ frame_shown f ∷ frames_onto (take k m.frames.items) [] = frames-some m.frames.items k f (omega (arith, m.frames.ok.0, ltb-true 0 (length m.frames.items) (sym items.0))) items.1 in
-    IfOk-weaker c.gather_by_turns.result (λ after. GathersRun g.G.Gatherer.gathered c.args.limits.now f m.used from c.args.gatherer.now used after h) (λ after. GathersUpTo g.G.Gatherer.gathered c.args.limits.now m from c.args.gatherer.now (record m { used = used }) after h)
+    IfOk-weaker c.gather_records.result (λ after. GathersRun g.G.Gatherer.gathered c.args.limits.now f m.used from c.args.gatherer.now used after h) (λ after. GathersUpTo g.G.Gatherer.gathered c.args.limits.now m from c.args.gatherer.now (record m { used = used }) after h)
     (λ after run. on_run g.G.Gatherer.gathered c.args.limits.now f m (frames_onto (take k m.frames.items) []) from c.args.gatherer.now used after h split run)
-    c.gather_by_turns.ensures.gathers
+    c.gather_records.ensures.gathers
 
 pub returns-clause-stops : goal.returns-clause-stops
 returns-clause-stops g c =
@@ -36,6 +36,6 @@ returns-clause-stops g c =
     let k = length m.frames.items - 1 in
     let items = rw c.deref.ensures.value at c.in-Some.ensures.item in
     let split : frames_shown m.frames.items ≡ frame_shown f ∷ frames_onto (take k m.frames.items) [] = frames-some m.frames.items k f (omega (arith, m.frames.ok.0, ltb-true 0 (length m.frames.items) (sym items.0))) items.1 in
-    on_err_weaker c.gather_by_turns.result
+    on_err_weaker c.gather_records.result
     (λ stops. stops m (frames_onto (take k m.frames.items) []) split refl)
-    c.gather_by_turns.ensures.stops
+    c.gather_records.ensures.stops

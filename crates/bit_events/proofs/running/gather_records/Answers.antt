@@ -1,130 +1,41 @@
-use Rattle.std.proofs.Common.{◌≡◌, ℕ, ◌+◌, ◌-◌, List, [], Some, refl, sym, ap, ◌∙◌, subst, arith, length}
-use Rattle.std.proofs.lemmas.Result.{err_from_is_err_and}
-use Rattle.bit_grammar.specs.Terms.{CodeAndValues}
-use Rattle.bit_grammar.specs.Blocks.{entry}
-use Rattle.bit_fields.specs.Buffered.{reader_at}
-use Rattle.bit_fields.proofs.BufferedReads.{reads_forward, took_reads}
-use Rattle.bit_events.specs.FrameView.{frame_shown, info_shown}
-use Rattle.bit_events.specs.Gathering.{Gathers}
-use Rattle.bit_events.specs.MachineView.{record_of}
-use Rattle.bit_events.proofs.Runs.{added_behind, gathers_none, gathers_more, record_seen, stop_later, stop_record}
+use Rattle.std.proofs.Common.{◌-◌}
+use Rattle.std.proofs.lemmas.Result.{IfOk-weaker, on_err_weaker}
+use Rattle.bit_fields.specs.Buffered.{beyond}
+use Rattle.bit_fields.specs.BufferedParts.{bits_of_parts}
+use Rattle.bit_events.specs.Runs.{GathersRun}
+use Rattle.bit_events.proofs.Counting.{run_then}
+use Rattle.bit_events.proofs.Runs.{gathers_none, gathers_then, stop_later}
 use Rattle.bit_events.proofs.running.gather_records.Goals as goal
 
-pub loop-id-init : goal.loop-id-init
-loop-id-init g c = record {
-  gathers = gathers_none g.G.Gatherer.gathered c.args.limits.now c.args.frame.now c.args.used.now c.args.buffered c.args.gatherer.now;
-  room = omega (arith, c.saturating_sub-room.ensures, c.values.ensures.values);
-  first = c.position-first.ensures;
-  took = c.requires.took;
-}
+pub gather_on-requires-clause-there : goal.gather_on-requires-clause-there
+gather_on-requires-clause-there g c =
+    let a = c.args in
+    let bits = bits_of_parts a.parts in
+    let from = beyond bits (a.start - a.parts.position) in
+    let t = c.pass_placed.new in
+    (run_then g.G.Gatherer.gathered a.limits.now a.frame.now a.used.now bits from a.gatherer.now a.used.now a.start a.gatherer.now t.used c.in_ok-run.run'.after t.gatherer c.requires.least c.requires.there (gathers_none g.G.Gatherer.gathered a.limits.now a.frame.now a.used.now from a.gatherer.now) c.in_ok-run.ensures.gathers).1
 
-pub returns-in_default-clause-took : goal.returns-in_default-clause-took
-returns-in_default-clause-took g c = (let was = c.loop-id.invariant.took in ([], c.truncate.ensures [] was.0 was.1 refl))
+pub returns-clause-gathers : goal.returns-clause-gathers
+returns-clause-gathers g c =
+    let a = c.args in
+    let bits = bits_of_parts a.parts in
+    let from = beyond bits (a.start - a.parts.position) in
+    let t = c.pass_placed.new in
+    let u = c.gather_on.new in
+    let first = c.in_ok-run.run'.after in
+    let one = run_then g.G.Gatherer.gathered a.limits.now a.frame.now a.used.now bits from a.gatherer.now a.used.now a.start a.gatherer.now t.used first t.gatherer c.requires.least c.requires.there (gathers_none g.G.Gatherer.gathered a.limits.now a.frame.now a.used.now from a.gatherer.now) c.in_ok-run.ensures.gathers in
+    IfOk-weaker c.gather_on.result (λ after. GathersRun g.G.Gatherer.gathered a.limits.now a.frame.now t.used (beyond bits (first - a.parts.position)) t.gatherer u.used after u.gatherer) (λ after. GathersRun g.G.Gatherer.gathered a.limits.now a.frame.now a.used.now from a.gatherer.now u.used after u.gatherer)
+    (λ after run. (run.0, run.1, gathers_then g.G.Gatherer.gathered a.limits.now a.frame.now a.used.now from a.gatherer.now t.used (beyond bits (first - a.parts.position)) t.gatherer u.used run.0 u.gatherer one.2 run.2))
+    c.gather_on.ensures.gathers
 
-pub returns-in_default-read_entry-clause-took : goal.returns-in_default-read_entry-clause-took
-returns-in_default-read_entry-clause-took g c = (let was = c.loop-id.invariant.took in c.in_default-read_entry.ensures.keeps [] (c.truncate.ensures [] was.0 was.1 refl))
-
-pub overflow_add-spent : goal.overflow_add-spent
-overflow_add-spent g c =
-    let l = c.loop-id in
-    let f = c.args.frame.now in
-    let b = c.record_id.new.buffered in
-    let added = rw (c.all-definitions.ensures, l.invariant.first) at (c.in-Ok.ensures.adds [] (c.truncate.ensures [] l.invariant.took.0 l.invariant.took.1 refl)) in
-    let read = added_behind (entry l.room l.buffered.position c.in-Some.id f.definitions) l.room (reader_at b) c.in-Ok.code (reader_at c.read_entry.new.bits) [] added.0 added.2 in
-    let taken = subst (g.G.Values.ValueTaker.took c.read_entry.new.values) read.1 added.1 in
-    omega (arith, c.count-count.ensures read.0 taken, read.2.0, l.invariant.room, c.values.ensures.capped, l.auto.spent-fits)
-
-pub returns-in_err-record-clause-took : goal.returns-in_err-record-clause-took
-returns-in_err-record-clause-took g c =
-    let added = c.in-Ok.ensures.adds [] (c.truncate.ensures [] c.loop-id.invariant.took.0 c.loop-id.invariant.took.1 refl) in
-    c.in_err-record.ensures.took (added.0, added.1)
-
-pub loop-id-smaller : goal.loop-id-smaller
-loop-id-smaller g c =
-    let l = c.loop-id in
-    let f = c.args.frame.now in
-    let b = c.record_id.new.buffered in
-    let d = c.read_entry.new.bits in
-    let added = rw (c.all-definitions.ensures, l.invariant.first) at (c.in-Ok.ensures.adds [] (c.truncate.ensures [] l.invariant.took.0 l.invariant.took.1 refl)) in
-    let read = added_behind (entry l.room l.buffered.position c.in-Some.id f.definitions) l.room (reader_at b) c.in-Ok.code (reader_at d) [] added.0 added.2 in
-    let value : CodeAndValues = record { code = c.in-Ok.code; values = read.0 } in
-    let rule = entry l.room l.buffered.position c.in-Some.id f.definitions in
-    let forward = reads_forward rule b value d (took_reads rule b value d read.2.1) in
-    omega (arith, c.position-after.ensures, l.invariant.first, c.in-Some.ensures.moves, forward)
-
-pub loop-id-preserved : goal.loop-id-preserved
-loop-id-preserved g c =
-    let l = c.loop-id in
-    let f = c.args.frame.now in
-    let b = c.record_id.new.buffered in
-    let d = c.read_entry.new.bits in
-    let id = c.in-Some.id in
-    let code = c.in-Ok.code in
-    let h = l.gatherer in
-    let before = l.invariant.gathers in
-    let added = rw (c.all-definitions.ensures, l.invariant.first) at (c.in-Ok.ensures.adds [] (c.truncate.ensures [] l.invariant.took.0 l.invariant.took.1 refl)) in
-    let read = added_behind (entry l.room l.buffered.position id f.definitions) l.room (reader_at b) code (reader_at d) [] added.0 added.2 in
-    let list : List ℕ = read.0 in
-    let taken = subst (g.G.Values.ValueTaker.took c.read_entry.new.values) read.1 added.1 in
-    let more : l.spent + c.count-count.result ≡ l.spent + length list = omega (arith, c.count-count.ensures list taken, read.2.0, c.values.ensures.capped, l.invariant.room) in
-    record {
-      gathers = gathers_more g.G.Gatherer.gathered c.args.limits.now f c.args.used.now c.args.buffered c.args.gatherer.now l.spent l.buffered h id code list d c.record.new.self (l.spent + c.count-count.result) before more
-          (λ outer handed same.
-          let room = ap (λ (u : ℕ). c.args.limits.now.values - u) same ∙ sym l.invariant.room in
-          record_seen c.args.limits.now (frame_shown f) outer handed id code list l.buffered b d (ap info_shown c.requires.plain) c.in-Some.ensures.three c.in-Some.ensures.reads (rw room read.2.1))
-          (subst (λ (n : ℕ). Gathers g.G.Gatherer.gathered h (record_of id list l.buffered.position (code, n)) c.record.new.self) c.position-after.ensures (subst (λ (n : ℕ). Gathers g.G.Gatherer.gathered h (record_of id list n (code, c.position-after.result)) c.record.new.self) l.invariant.first (c.in_ok-record.ensures.gathers list taken)));
-      room = omega (arith, c.saturating_sub-room-in-loop-id.ensures, l.invariant.room);
-      first = c.position-after.ensures;
-      took = c.in_ok-record.ensures.took (list, taken);
-    }
-
-pub returns-then-passes-clause-took : goal.returns-then-passes-clause-took
-returns-then-passes-clause-took g c =
-    let added = c.in-Ok.ensures.adds [] (c.truncate.ensures [] c.loop-id.invariant.took.0 c.loop-id.invariant.took.1 refl) in
-    c.in_ok-record.ensures.took (added.0, added.1)
-
-pub returns-then-passes-clause-gathers : goal.returns-then-passes-clause-gathers
-returns-then-passes-clause-gathers g c =
-    let l = c.loop-id in
-    let f = c.args.frame.now in
-    let b = c.record_id.new.buffered in
-    let d = c.read_entry.new.bits in
-    let id = c.in-Some.id in
-    let code = c.in-Ok.code in
-    let h = l.gatherer in
-    let before = l.invariant.gathers in
-    let added = rw (c.all-definitions.ensures, l.invariant.first) at (c.in-Ok.ensures.adds [] (c.truncate.ensures [] l.invariant.took.0 l.invariant.took.1 refl)) in
-    let read = added_behind (entry l.room l.buffered.position id f.definitions) l.room (reader_at b) code (reader_at d) [] added.0 added.2 in
-    let list : List ℕ = read.0 in
-    let taken = subst (g.G.Values.ValueTaker.took c.read_entry.new.values) read.1 added.1 in
-    let more : l.spent + c.count-count.result ≡ l.spent + length list = omega (arith, c.count-count.ensures list taken, read.2.0, c.values.ensures.capped, l.invariant.room) in (
-      d,
-      sym c.position-after.ensures,
-      gathers_more g.G.Gatherer.gathered c.args.limits.now f c.args.used.now c.args.buffered c.args.gatherer.now l.spent l.buffered h id code list d c.record.new.self (l.spent + c.count-count.result) before more
-          (λ outer handed same.
-          let room = ap (λ (u : ℕ). c.args.limits.now.values - u) same ∙ sym l.invariant.room in
-          record_seen c.args.limits.now (frame_shown f) outer handed id code list l.buffered b d (ap info_shown c.requires.plain) c.in-Some.ensures.three c.in-Some.ensures.reads (rw room read.2.1))
-          (subst (λ (n : ℕ). Gathers g.G.Gatherer.gathered h (record_of id list l.buffered.position (code, n)) c.record.new.self) c.position-after.ensures (subst (λ (n : ℕ). Gathers g.G.Gatherer.gathered h (record_of id list n (code, c.position-after.result)) c.record.new.self) l.invariant.first (c.in_ok-record.ensures.gathers list taken))),
-    )
-
-pub returns-in_err-record-clause-stops : goal.returns-in_err-record-clause-stops
-returns-in_err-record-clause-stops g c =
-    let l = c.loop-id in
-    let f = c.args.frame.now in
-    let b = c.record_id.new.buffered in
-    let d = c.read_entry.new.bits in
-    let id = c.in-Some.id in
-    let code = c.in-Ok.code in
-    let h = l.gatherer in
-    let before = l.invariant.gathers in
-    let added = rw (c.all-definitions.ensures, l.invariant.first) at (c.in-Ok.ensures.adds [] (c.truncate.ensures [] l.invariant.took.0 l.invariant.took.1 refl)) in
-    let read = added_behind (entry l.room l.buffered.position id f.definitions) l.room (reader_at b) code (reader_at d) [] added.0 added.2 in
-    let list : List ℕ = read.0 in
-    let taken = subst (g.G.Values.ValueTaker.took c.read_entry.new.values) read.1 added.1 in
-    let p = err_from_is_err_and c.from_residual.result c.from_residual.ensures.1 in
-    rw p.1 (stop_later g.G.Gatherer.gathered g.G.Gatherer.fails c.args.limits.now f c.args.used.now c.args.buffered c.args.gatherer.now l.spent l.buffered h c.record.new.self before
-    (stop_record g.G.Gatherer.gathered g.G.Gatherer.fails c.args.limits.now f l.spent l.buffered h c.record.new.self id code list d
-    (λ outer handed same.
-    let room = ap (λ (u : ℕ). c.args.limits.now.values - u) same ∙ sym l.invariant.room in
-    record_seen c.args.limits.now (frame_shown f) outer handed id code list l.buffered b d (ap info_shown c.requires.plain) c.in-Some.ensures.three c.in-Some.ensures.reads (rw room read.2.1))
-    (subst (λ (n : ℕ). g.G.Gatherer.fails h (Some (record_of id list l.buffered.position (code, n))) c.record.new.self) c.position-after.ensures (subst (λ (n : ℕ). g.G.Gatherer.fails h (Some (record_of id list n (code, c.position-after.result))) c.record.new.self) l.invariant.first (c.in_err-record.ensures.fails list taken)))))
+pub returns-clause-stops : goal.returns-clause-stops
+returns-clause-stops g c =
+    let a = c.args in
+    let bits = bits_of_parts a.parts in
+    let from = beyond bits (a.start - a.parts.position) in
+    let t = c.pass_placed.new in
+    let first = c.in_ok-run.run'.after in
+    let one = run_then g.G.Gatherer.gathered a.limits.now a.frame.now a.used.now bits from a.gatherer.now a.used.now a.start a.gatherer.now t.used first t.gatherer c.requires.least c.requires.there (gathers_none g.G.Gatherer.gathered a.limits.now a.frame.now a.used.now from a.gatherer.now) c.in_ok-run.ensures.gathers in
+    on_err_weaker c.gather_on.result
+    (λ stops. stop_later g.G.Gatherer.gathered g.G.Gatherer.fails a.limits.now a.frame.now a.used.now from a.gatherer.now t.used (beyond bits (first - a.parts.position)) t.gatherer c.gather_on.new.gatherer one.2 stops)
+    c.gather_on.ensures.stops

@@ -12,6 +12,11 @@ returns-in_default-clause-gathers g c =
     let a = beyond (bits_of_parts c.args.parts) (c.args.first - c.args.parts.position) in
     (a, omega (arith, c.requires.least), gathers_none g.G.Gatherer.gathered c.args.limits.now c.args.frame.now c.args.used.now a c.args.gatherer.now)
 
+pub returns-then-not-passes-clause-gathers : goal.returns-then-not-passes-clause-gathers
+returns-then-not-passes-clause-gathers g c =
+    let a = beyond (bits_of_parts c.args.parts) (c.args.first - c.args.parts.position) in
+    (a, omega (arith, c.requires.least), gathers_none g.G.Gatherer.gathered c.args.limits.now c.args.frame.now c.args.used.now a c.args.gatherer.now)
+
 pub returns-in_err-run-clause-stops : goal.returns-in_err-run-clause-stops
 returns-in_err-run-clause-stops g c =
     let a = beyond (bits_of_parts c.args.parts) (c.args.first - c.args.parts.position) in

@@ -2,7 +2,8 @@ use Rattle.std.proofs.Common.{◌≡◌, ℕ, ◌-◌, ◌≤◌, List, length, 
 use Rattle.bit_grammar.specs.declared.op.Op.{Op}
 use Rattle.bit_grammar.specs.FormatDefinition.{op_at}
 use Rattle.bit_fields.specs.PlacedView.{placed}
-use Rattle.bit_norm.proofs.Written.{code_left, coded_written, coded_forward, coded_parts, front_ends, front_keeps, scalars_end}
+use Rattle.bit_abbrev.proofs.Singles.{code_left, coded_parts}
+use Rattle.bit_norm.proofs.Written.{coded_written, coded_forward, front_ends, front_keeps, scalars_end}
 use Rattle.bit_norm.proofs.form_run.write_coded.Goals as goal
 
 pub write_ops-requires-clause-few : goal.write_ops-requires-clause-few

@@ -2,7 +2,8 @@ use Rattle.std.proofs.Common.{◌≡◌, ℕ, ◌+◌, ◌-◌, ◌≤◌, List,
 use Rattle.bit_grammar.specs.declared.op.Op.{Op}
 use Rattle.bit_grammar.specs.FormatDefinition.{op_at}
 use Rattle.bit_fields.specs.PlacedView.{placed}
-use Rattle.bit_norm.proofs.Written.{code_left, list_written, list_forward, list_parts, front_ends, front_keeps, scalars_end, scalars_keep, elements_end}
+use Rattle.bit_abbrev.proofs.Singles.{code_left, list_parts}
+use Rattle.bit_norm.proofs.Written.{list_written, list_forward, front_ends, front_keeps, scalars_end, scalars_keep, elements_end}
 use Rattle.bit_norm.proofs.form_run.write_list.Goals as goal
 
 pub pass_ops-requires-clause-there : goal.pass_ops-requires-clause-there

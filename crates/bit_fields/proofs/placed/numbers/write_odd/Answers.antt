@@ -5,7 +5,8 @@ use Rattle.bit_fields.specs.Pens.{WritesSixes}
 use Rattle.bit_fields.specs.Placed.{bits_at}
 use Rattle.bit_fields.specs.PlacedView.{placed}
 use Rattle.bit_fields.proofs.Placing.{length_at}
-use Rattle.bit_fields.proofs.WrittenSixes.{behind_at, sixes_long, sixes_moved}
+use Rattle.bit_fields.proofs.SixRows.{behind_at}
+use Rattle.bit_fields.proofs.WrittenSixes.{sixes_long, sixes_moved}
 use Rattle.bit_fields.proofs.placed.numbers.write_odd.Goals as goal
 
 pub front-rest-requires-clause-there : goal.front-rest-requires-clause-there

@@ -4,7 +4,7 @@ use Rattle.bit_norm.proofs.PassedRecords.{passed_counted}
 use Rattle.bit_norm.proofs.in_step.Comparer.pass_equal.Goals as goal
 
 pub returns : goal.returns
-returns c = λ definitions are.
+returns c =
     let was = c.self.inside in
     let before : Comparing = record {
       compared = record { first = was.first; first_blocks = was.first_blocks; second_blocks = was.second_blocks; within = was.walk.«open».items; items = was.walk.items; first_ended = was.first_ended; second_ended = was.second_ended; found = was.found };
@@ -13,8 +13,8 @@ returns c = λ definitions are.
       passed = was.passed;
     } in
     let last = c.pass_records.new.counter in
-    let passed = c.in_ok-run.ensures.passes definitions are in (
-      c.in_ok-run.ensures.less,
+    let passed = c.in_ok-run.ensures.passes in (
+      passed.2.less,
       (
         passed.0,
         passed.2,

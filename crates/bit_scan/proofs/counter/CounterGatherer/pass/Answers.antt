@@ -1,5 +1,6 @@
 use Rattle.std.proofs.Common.{◌≡◌, ◌-◌, List, [], length, Some, subst, slice_get}
 use Rattle.std.specs.Prelude.{IfOk}
+use Rattle.std.proofs.lemmas.Result.{IfOk-weaker}
 use Rattle.bit_fields.specs.PlacedView.{placed}
 use Rattle.bit_grammar.specs.Machine.{Event}
 use Rattle.bit_grammar.specs.Counting.{Counts, count_events, no_counts}
@@ -17,12 +18,12 @@ pub returns-in-Some-clause-gathers : goal.returns-in-Some-clause-gathers
 returns-in-Some-clause-gathers c =
     let opened = c.self.inside.open.items in
     let x = c.in-Some.block.now in
-    let definitions = c.args._definitions.now in
+    let definitions = c.args.definitions.now in
     let innermost : Some x ≡ slice_get opened (length opened - 1) = subst (λ (blocks : List CountedBlock). Some x ≡ slice_get blocks (length blocks - 1)) c.deref.ensures.value c.in-Some.ensures.value in
     subst (λ (old : Counts). IfOk c.pass.result (λ run. PassesRun (λ (first : Counter) (events : List Event) (last : Counts). last ≡ capped_counts (count_events events no_counts)) c.args.width definitions c.args.room (placed c.args.bits) old run (record { rows = block_tallies c.pass.new.self; around = open_counts opened }))) c.self.view_is
-    (both_told _ _ c.pass.result c.pass.ensures.less
-    (run_gathered (PassesRecords c.args.width definitions c.args.room (placed c.args.bits)) c.pass.result c.self.inside.rows c.pass.new.self opened x innermost (c.pass.ensures.passes definitions c.requires.plans)))
+    (both_told _ _ c.pass.result (IfOk-weaker c.pass.result _ _ (λ run passed. passed.1.less) c.pass.ensures)
+    (run_gathered (PassesRecords c.args.width definitions c.args.room (placed c.args.bits)) c.pass.result c.self.inside.rows c.pass.new.self opened x innermost c.pass.ensures))
 
 pub returns-in-None-clause-gathers : goal.returns-in-None-clause-gathers
 returns-in-None-clause-gathers c =
-    ((c.none.ensures 0 []).less, ([], c.none.ensures c.args.width c.args._definitions.now, none_gathered (λ (first : Counter) (events : List Event) (last : Counts). last ≡ capped_counts (count_events events no_counts)) c.args.self.now))
+    ((c.none.ensures 0 []).less, ([], c.none.ensures c.args.width c.args.definitions.now, none_gathered (λ (first : Counter) (events : List Event) (last : Counts). last ≡ capped_counts (count_events events no_counts)) c.args.self.now))

@@ -1,0 +1,9 @@
+//! Tests of `bit_abbrev` by its public calls.
+#![tactic(auto)]
+
+#[cfg(test)]
+mod definitions;
+#[cfg(test)]
+mod plans;
+#[cfg(test)]
+mod reading;
