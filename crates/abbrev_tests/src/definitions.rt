@@ -1,6 +1,6 @@
 //! Definitions: which are lawful, how they are laid out, and which are in force.
 
-use bit_abbrev::{Abbrev, InForce, InfoTable, Layout, Op, SharedInfo};
+use bit_abbrev::{Abbrev, InForce, InfoBuilder, InfoTable, Layout, Op, SharedInfo};
 use bit_grammar::Reason;
 use smallvec::SmallVec;
 use std::alloc::{AllocError, Global};
@@ -88,7 +88,7 @@ fn unlawful_lists_come_back(rt: HostRuntime) -> Result<(), Fail> {
 }
 
 /// The definition with these operands.
-fn abbrev(alloc: Global, ops: &[Op]) -> Result<Abbrev, Fail> {
+pub(crate) fn abbrev(alloc: Global, ops: &[Op]) -> Result<Abbrev, Fail> {
     match Abbrev::new(SmallVec::from_slice(alloc, ops)?) {
         Ok(made) => Ok(made),
         Err(_) => Err("it is lawful".into()),
@@ -168,7 +168,7 @@ fn constant(alloc: Global, value: u64) -> Result<Abbrev, Fail> {
 }
 
 /// The literal with which a definition begins; 0 for no definition, and the greatest number for one that begins otherwise.
-fn literal(definition: Option<&Abbrev>) -> u64 {
+pub(crate) fn literal(definition: Option<&Abbrev>) -> u64 {
     match definition.map(Abbrev::ops) {
         None => 0,
         Some([Op::Literal(value), ..]) if *value > 0 => *value,
@@ -238,24 +238,24 @@ fn the_table_keeps_the_order_of_each_id(rt: HostRuntime) -> Result<(), Fail> {
     Ok(())
 }
 
-/// The literals of the definitions in force with zeros after them, and that of the last one.
+/// The literals of the definitions in force with zeros after them, and that of the last one which the block added.
 fn in_force(definitions: &InForce) -> ([u64; 9], u64) {
     let mut values = [0; 9];
     for (index, value) in values.iter_mut().enumerate() {
         *value = literal(definitions.get(index));
     }
-    (values, literal(definitions.last()))
+    (values, literal(definitions.newest()))
 }
 
 /// Adds a definition to a table.
-fn put(alloc: Global, table: &mut InfoTable, id: u32, value: u64) -> Result<(), Fail> {
+pub(crate) fn put(alloc: Global, table: &mut InfoBuilder, id: u32, value: u64) -> Result<(), Fail> {
     table.define(id, constant(alloc, value)?)?;
     Ok(())
 }
 
 /// A table that has these literals for this id.
-fn table_of(alloc: Global, id: u32, values: &[u64]) -> Result<InfoTable, Fail> {
-    let mut table = InfoTable::new(alloc);
+fn table_of(alloc: Global, id: u32, values: &[u64]) -> Result<InfoBuilder, Fail> {
+    let mut table = InfoBuilder::new(alloc, 0);
     for value in values {
         put(alloc, &mut table, id, *value)?;
     }
@@ -268,7 +268,7 @@ fn shared_of(alloc: Global, id: u32, values: &[u64]) -> Result<SharedInfo, Fail>
 }
 
 /// Adds a definition to a block.
-fn add(alloc: Global, definitions: &mut InForce, value: u64) -> Result<(), Fail> {
+pub(crate) fn add(alloc: Global, definitions: &mut InForce, value: u64) -> Result<(), Fail> {
     definitions.define(constant(alloc, value)?)?;
     Ok(())
 }
@@ -338,13 +338,13 @@ fn in_force_after(
 
 static KEPT: [([u64; 9], u64); 3] = [
     ([1, 2, 3, 5, 0, 0, 0, 0, 0], 5),
-    ([1, 2, 0, 0, 0, 0, 0, 0, 0], 2),
+    ([1, 2, 0, 0, 0, 0, 0, 0, 0], 0),
     ([0, 0, 0, 0, 0, 0, 0, 0, 0], 0),
 ];
 
 static LATER: [([u64; 9], u64); 2] = [
     ([0, 0, 0, 0, 0, 0, 0, 0, 0], 0),
-    ([4, 0, 0, 0, 0, 0, 0, 0, 0], 4),
+    ([4, 0, 0, 0, 0, 0, 0, 0, 0], 0),
 ];
 
 #[test]

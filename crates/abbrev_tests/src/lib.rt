@@ -4,6 +4,8 @@
 #[cfg(test)]
 mod definitions;
 #[cfg(test)]
+mod held;
+#[cfg(test)]
 mod plans;
 #[cfg(test)]
 mod reading;

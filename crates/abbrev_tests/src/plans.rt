@@ -5,7 +5,7 @@ ghost use Rattle.bit_fields.specs.BufferedParts.{AreParts};
 ghost use Rattle.bit_fields.specs.PlacedView.{loaded};
 
 use bit_abbrev::{
-    Abbrev, InForce, InfoTable, MARGIN, Op, Passed, Plan, SharedInfo, pass_plain, read_plain,
+    Abbrev, InForce, InfoBuilder, MARGIN, Op, Passed, Plan, SharedInfo, pass_plain, read_plain,
     read_record,
 };
 use bit_fields::{
@@ -108,7 +108,7 @@ fn described(alloc: Global, ops: &[Op]) -> Result<InForce, Fail> {
     let Ok(abbrev) = Abbrev::new(SmallVec::from_slice(alloc, ops)?) else {
         return Err("it is lawful".into());
     };
-    let mut table = InfoTable::with_plans(alloc, 1);
+    let mut table = InfoBuilder::new(alloc, 1);
     table.define(8, abbrev)?;
     Ok(SharedInfo::share(alloc, table)?.enter(alloc, 8)?)
 }

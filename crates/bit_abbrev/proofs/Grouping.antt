@@ -1,12 +1,16 @@
--- Plans of the first definitions for block ids, and one definition more.
-use Rattle.std.proofs.Common.{◌≡◌, ℕ, zero, suc, List, [], ◌∷◌, ◌++◌, length, Some, true, false, refl, sym, ◌∙◌, subst, arith, inl, inr, nat_eq, slice_get, set}
+-- Plans of the first definitions, groups of definitions, and one definition more.
+use Rattle.std.proofs.Common.{◌≡◌, ◌≢◌, ℕ, ◌+◌, ◌-◌, ◌<◌, ◌≤◌, zero, suc, true, false, cond, List, [], ◌∷◌, ◌++◌, length, Option, Some, refl, sym, ap, ◌∙◌, subst, arith, inl, inr, nat_eq, slice_get, set}
+use Rattle.std.specs.Option.{option_map_or}
 use Rattle.std.proofs.lemmas.Bool.{cases_eq, eq-eqb, ne_eqb}
+use Rattle.std.proofs.lemmas.List.{length-append, get_or_push, get_or-set_same}
+use Rattle.std.proofs.Math.ListN.{length-set}
+use Rattle.std.proofs.lemmas.Option.{slice_get-get_or, slice_get_past}
 use Rattle.bit_grammar.specs.declared.op.Op.{Op}
-use Rattle.bit_grammar.specs.Terms.{Table, defined_at}
+use Rattle.bit_grammar.specs.Terms.{defined_at}
 use Rattle.bit_abbrev.specs.declared.plan.Plan.{Plan}
-use Rattle.bit_abbrev.specs.declared.groups.PlanGroup.{PlanGroup}
-use Rattle.bit_abbrev.specs.Groups.{AreFirst, HavePlans}
+use Rattle.bit_abbrev.specs.Groups.{AreFirst, IsPlaceOf, ready_at, ready_for}
 use Rattle.bit_abbrev.specs.Plans.{ArePlans, IsPlan}
+use Rattle.bit_abbrev.specs.Ready.{last_one}
 
 -- ---- definitions of one id
 
@@ -31,39 +35,93 @@ by_index [] (one ∷ plans) h i plan at = absurd h
 by_index (ops ∷ definitions) (one ∷ plans) h zero plan at = (ops, refl, subst (IsPlan ops) (let e : one ≡ plan = cc in e) h.0)
 by_index (ops ∷ definitions) (one ∷ plans) h (suc i) plan at = by_index definitions plans h.1 i plan at
 
--- ---- definitions of all ids
+pub last_more : (xs : List (List Op)) (x : List Op) → last_one (xs ++ x ∷ []) ≡ Some x
+last_more xs x =
+    let one : length (xs ++ x ∷ []) ≡ length xs + 1 = length-append xs (x ∷ []) in
+    slice_get-get_or (xs ++ x ∷ []) (length (xs ++ x ∷ []) - 1) x (omega (arith, one)) ∙ ap Some (get_or_push xs x x (length (xs ++ x ∷ []) - 1) (omega (arith, one)))
 
-pub still_have : (definitions : Table) (id : ℕ) (ops : List Op) (groups : List PlanGroup) → HavePlans definitions groups → HavePlans (defined_at id ops definitions) groups
-still_have definitions id ops [] h = tt
-still_have definitions id ops (group ∷ groups) h = (longer definitions id ops group.id group.plans.items h.0, still_have definitions id ops groups h.1)
-  where
-    longer : (definitions : Table) (id : ℕ) (ops : List Op) (other : ℕ) (plans : List Plan) → AreFirst (definitions other) plans → AreFirst (defined_at id ops definitions other) plans
-    longer definitions id ops other plans h = elim (cases_eq other id) [
-      | inl same ↦ let there : nat_eq other id ≡ true = eq-eqb other id same in rw there (first_still (definitions other) (ops ∷ []) plans h)
-      | inr differ ↦ let there : nat_eq other id ≡ false = ne_eqb other id differ in rw there h
-    ]
+-- ---- groups
 
-pub same_have : (definitions others : Table) (groups : List PlanGroup) → ((id : ℕ) → others id ≡ definitions id) → HavePlans definitions groups → HavePlans others groups
-same_have definitions others [] same h = tt
-same_have definitions others (group ∷ groups) same h = (subst (λ (all : List (List Op)). AreFirst all group.plans.items) (sym (same group.id)) h.0, same_have definitions others groups same h.1)
+-- a group, and those behind it
+behind : (one : ℕ × List (List Op)) (groups : List (ℕ × List (List Op))) (id place : ℕ) → IsPlaceOf (one ∷ groups) id (suc place) → IsPlaceOf groups id place
+behind one groups id place is = record {
+  within = omega (arith, is.within);
+  before = λ i group below at. is.before (suc i) group (omega (arith, below)) at;
+  here = λ group at. is.here group at;
+}
 
-pub have_at : (definitions : Table) (groups : List PlanGroup) (i : ℕ) (group : PlanGroup) → HavePlans definitions groups → slice_get groups i ≡ Some group → AreFirst (definitions group.id) group.plans.items
-have_at definitions [] zero group h at = cc
-have_at definitions [] (suc i) group h at = cc
-have_at definitions (one ∷ groups) zero group h at = let e : one ≡ group = cc in subst (λ (g : PlanGroup). AreFirst (definitions g.id) g.plans.items) e h.0
-have_at definitions (one ∷ groups) (suc i) group h at = have_at definitions groups i group h.1 at
+apart : (one : ℕ × List (List Op)) (groups : List (ℕ × List (List Op))) (id place : ℕ) → IsPlaceOf (one ∷ groups) id (suc place) → one.0 ≢ id
+apart one groups id place is = is.before zero one (omega arith) refl
 
-pub have_set : (definitions : Table) (groups : List PlanGroup) (i : ℕ) (group : PlanGroup) → HavePlans definitions groups → AreFirst (definitions group.id) group.plans.items → HavePlans definitions (set groups i group)
-have_set definitions [] i group h new = tt
-have_set definitions (one ∷ groups) zero group h new = (new, h.1)
-have_set definitions (one ∷ groups) (suc i) group h new = (h.0, have_set definitions groups i group h.1 new)
+-- a definition is added behind a group for another id
+past : (one : ℕ × List (List Op)) (id other : ℕ) (ops : List Op) (new old : List (List Op)) → one.0 ≢ id → new ≡ cond (nat_eq other id) (old ++ ops ∷ []) old
+    → cond (nat_eq other one.0) one.1 new ≡ cond (nat_eq other id) (cond (nat_eq other one.0) one.1 old ++ ops ∷ []) (cond (nat_eq other one.0) one.1 old)
+past one id other ops new old differ rest = elim (cases_eq other one.0) [
+  | inl same ↦
+      let there : nat_eq other one.0 ≡ true = eq-eqb other one.0 same in
+      let not : nat_eq other id ≡ false = ne_eqb other id (λ is. differ (sym same ∙ is)) in
+      rw (there, not) refl
+  | inr off ↦
+      let there : nat_eq other one.0 ≡ false = ne_eqb other one.0 off in
+      rw there rest
+]
 
-pub have_more : (definitions : Table) (groups : List PlanGroup) (group : PlanGroup) → HavePlans definitions groups → AreFirst (definitions group.id) group.plans.items → HavePlans definitions (groups ++ group ∷ [])
-have_more definitions [] group h new = (new, tt)
-have_more definitions (one ∷ groups) group h new = (h.0, have_more definitions groups group h.1 new)
+-- one more definition in a group
+pub one_more : (groups : List (ℕ × List (List Op))) (id place : ℕ) (group : ℕ × List (List Op)) (ops : List Op) → IsPlaceOf groups id place → slice_get groups place ≡ Some group
+    → (other : ℕ) → ready_for (set groups place (group.0, group.1 ++ ops ∷ [])) other ≡ defined_at id ops (ready_for groups) other
+one_more [] id zero group ops is at other = absurd cc
+one_more [] id (suc place) group ops is at other = absurd cc
+one_more (one ∷ groups) id zero group ops is at other = elim (cases_eq other id) [
+  | inl same ↦
+      let it : one ≡ group = cc in
+      let here : group.0 ≡ id = is.here group at in
+      let there : nat_eq other id ≡ true = eq-eqb other id same in
+      rw (it, here, there) refl
+  | inr off ↦
+      let it : one ≡ group = cc in
+      let here : group.0 ≡ id = is.here group at in
+      let there : nat_eq other id ≡ false = ne_eqb other id off in
+      rw (it, here, there) refl
+]
+one_more (one ∷ groups) id (suc place) group ops is at other =
+    past one id other ops (ready_for (set groups place (group.0, group.1 ++ ops ∷ [])) other) (ready_for groups other) (apart one groups id place is) (one_more groups id place group ops (behind one groups id place is) at other)
 
--- plans with that of one definition more for an id
-pub planned_more : (definitions : Table) (id before : ℕ) (ops : List Op) (plans new : List Plan) (plan : Plan) → length (definitions id) ≡ before → length plans ≡ before → AreFirst (definitions id) plans → IsPlan ops plan → new ≡ plans ++ plan ∷ [] → AreFirst (defined_at id ops definitions id) new
-planned_more definitions id before ops plans new plan many same h is new_is =
-    let there : nat_eq id id ≡ true = eq-eqb id id refl in
-    rw (there, new_is) (first_more (definitions id) plans ops plan (same ∙ sym many) h is)
+-- a new group
+pub new_group : (groups : List (ℕ × List (List Op))) (id : ℕ) (ops : List Op) → IsPlaceOf groups id (length groups)
+    → (other : ℕ) → ready_for (groups ++ (id, ops ∷ []) ∷ []) other ≡ defined_at id ops (ready_for groups) other
+new_group [] id ops is other = refl
+new_group (one ∷ groups) id ops is other =
+    past one id other ops (ready_for (groups ++ (id, ops ∷ []) ∷ []) other) (ready_for groups other) (apart one groups id (length groups) is) (new_group groups id ops (behind one groups id (length groups) is) other)
+
+-- those for an id are those of the group at its place
+pub ready_there : (groups : List (ℕ × List (List Op))) (id place : ℕ) → IsPlaceOf groups id place → ready_for groups id ≡ ready_at groups place
+ready_there [] id zero is = refl
+ready_there [] id (suc place) is = refl
+ready_there (one ∷ groups) id zero is = let there : nat_eq id one.0 ≡ true = eq-eqb id one.0 (sym (is.here one refl)) in rw there refl
+ready_there (one ∷ groups) id (suc place) is =
+    let not : nat_eq id one.0 ≡ false = ne_eqb id one.0 (λ same. apart one groups id place is (sym same)) in
+    rw not (ready_there groups id place (behind one groups id place is))
+
+pub at_place : (groups : List (ℕ × List (List Op))) (place : ℕ) (group : ℕ × List (List Op)) → slice_get groups place ≡ Some group → ready_at groups place ≡ group.1
+at_place groups place group at = ap (λ (o : Option (ℕ × List (List Op))). option_map_or (λ g. g.1) o []) at
+
+-- there are none for an id that no group is for
+pub none_ready : (groups : List (ℕ × List (List Op))) (id place : ℕ) → IsPlaceOf groups id place → length groups ≤ place → ready_for groups id ≡ []
+none_ready groups id place is past = ready_there groups id place is ∙ ap (λ (o : Option (ℕ × List (List Op))). option_map_or (λ g. g.1) o []) (slice_get_past groups place past)
+
+-- ---- the last definition
+
+pub newest_here : (groups : List (ℕ × List (List Op))) (place : ℕ) (group : ℕ × List (List Op)) (ops : List Op) → place < length groups → last_one (ready_at (set groups place (group.0, group.1 ++ ops ∷ [])) place) ≡ Some ops
+newest_here groups place group ops within =
+    let more : ℕ × List (List Op) = (group.0, group.1 ++ ops ∷ []) in
+    let longer : place < length (set groups place more) = omega (arith, length-set groups place more) in
+    let at : slice_get (set groups place more) place ≡ Some more = slice_get-get_or (set groups place more) place more longer ∙ ap Some (get_or-set_same groups place more more within) in
+    rw (at_place (set groups place more) place more at) (last_more group.1 ops)
+
+pub newest_new : (groups : List (ℕ × List (List Op))) (id : ℕ) (ops : List Op) → last_one (ready_at (groups ++ (id, ops ∷ []) ∷ []) (length groups)) ≡ Some ops
+newest_new groups id ops =
+    let new : ℕ × List (List Op) = (id, ops ∷ []) in
+    let all = groups ++ new ∷ [] in
+    let one : length all ≡ length groups + 1 = length-append groups (new ∷ []) in
+    let at : slice_get all (length groups) ≡ Some new = slice_get-get_or all (length groups) new (omega (arith, one)) ∙ ap Some (get_or_push groups new new (length groups) refl) in
+    rw (at_place all (length groups) new at) refl

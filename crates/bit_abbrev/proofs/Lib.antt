@@ -1,5 +1,11 @@
 pub mod Breaks
+mod Encoded
+mod Heads
+mod HeldLists
+mod Ordered
 pub mod Table
+mod Tables
+mod Places
 pub mod Adding
 pub mod Taking
 pub mod Operands

@@ -21,11 +21,10 @@ use Rattle.bit_fields.specs.PlacedView.{placed}
 use Rattle.bit_fields.proofs.BufferedReads.{reads_forward, reads_there}
 use Rattle.bit_fields.proofs.Placing.{fixed_shown, length_at}
 use Rattle.bit_abbrev.specs.declared.layout.Layout.TheVariants as layout
-use Rattle.bit_abbrev.specs.declared.plan.Passed.{Passed}
 use Rattle.bit_abbrev.specs.Layouts.{IsSingle, AreSingles, HasLayout}
 use Rattle.bit_abbrev.specs.Plans.{PassesOver, TakesBits}
 use Rattle.bit_abbrev.specs.Scalars.{Elements, TakesScalar, HasScalars}
-use Rattle.bit_abbrev.proofs.Covering.{beyond_both, same_ok, left_is}
+use Rattle.bit_abbrev.proofs.Covering.{same_ok, left_is}
 use Rattle.bit_abbrev.proofs.PassedRecords.{field_elements, number_elements}
 
 -- ---- the same rule reads the same

@@ -1,9 +1,9 @@
--- The plans of the first definitions for block ids.
-use Rattle.std.specs.Prelude.{List, [], ◌∷◌}
+-- Groups of definitions for block ids, and plans of the first ones.
+use Rattle.std.specs.Prelude.{◌≡◌, ◌≢◌, ℕ, ◌<◌, ◌≤◌, List, [], ◌∷◌, Some, length, nat_eq, if◌then◌else◌, slice_get}
+use Rattle.std.specs.Option.{option_map_or}
 use Rattle.bit_grammar.specs.declared.op.Op.{Op}
 use Rattle.bit_grammar.specs.Terms.{Table}
 use Rattle.bit_abbrev.specs.declared.plan.Plan.{Plan}
-use Rattle.bit_abbrev.specs.declared.groups.PlanGroup.{PlanGroup}
 use Rattle.bit_abbrev.specs.Plans.{IsPlan}
 
 -- these are plans of the first definitions, in their order
@@ -12,8 +12,18 @@ AreFirst definitions [] = Unit {0}
 AreFirst [] (plan ∷ plans) = ⊥
 AreFirst (ops ∷ definitions) (plan ∷ plans) = IsPlan ops plan × AreFirst definitions plans
 
--- each group has plans of the first definitions for its id
-abbrev pub HavePlans : Table → List PlanGroup → Type 0
-HavePlans definitions [] = Unit {0}
-HavePlans definitions (group ∷ groups) = AreFirst (definitions group.id) group.plans.items
-    × HavePlans definitions groups
+-- the definitions for a block id, of the first group for it
+abbrev pub ready_for : List (ℕ × List (List Op)) → Table
+ready_for [] id = []
+ready_for (group ∷ groups) id = if nat_eq id group.0 then group.1 else ready_for groups id
+
+-- those of the group at a place
+abbrev pub ready_at : List (ℕ × List (List Op)) → (place : ℕ) → List (List Op)
+ready_at groups place = option_map_or (λ group. group.1) (slice_get groups place) []
+
+-- the place of the first group for a block id, or the number of groups if there is none
+pub record IsPlaceOf (groups : List (ℕ × List (List Op))) (id place : ℕ) : Type 0 where
+  pub within : place ≤ length groups
+  pub before : (i : ℕ) (group : ℕ × List (List Op)) → i < place → slice_get groups i ≡ Some group
+      → group.0 ≢ id
+  pub here : (group : ℕ × List (List Op)) → slice_get groups place ≡ Some group → group.0 ≡ id

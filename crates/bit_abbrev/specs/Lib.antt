@@ -1,9 +1,14 @@
 pub mod Bits
 pub mod Breaks
 pub mod Groups
+pub mod Heads
+pub mod HeldLists
+pub mod HeldOps
+pub mod InForce
 pub mod Layouts
 pub mod Operands
 pub mod Plans
+pub mod Ready
 pub mod Scalars
 pub mod Table
 pub mod Values

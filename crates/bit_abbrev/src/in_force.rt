@@ -1,64 +1,84 @@
 //! The table that blocks share, and the definitions in force in a block.
 
-ghost use Rattle.std.specs.Prelude.{◌≡◌, ◌-◌, ◌++◌, [], ◌∷◌, IfOk, OnOk, OnErr, length, slice_get};
+ghost use Rattle.std.specs.Prelude.{◌≡◌, ◌++◌, [], ◌∷◌, None, Some, IfOk, IfSome, OnOk, OnErr, slice_get};
 ghost use Rattle.std.specs.Option.{option_copied};
+ghost use Rattle.bit_grammar.specs.Terms.{no_definitions};
 ghost use Rattle.bit_abbrev.specs.Plans.{ArePlans};
-ghost use Rattle.bit_abbrev.specs.Table.{definitions_at};
+ghost use Rattle.bit_abbrev.specs.HeldLists.{all_of};
+ghost use Rattle.bit_abbrev.specs.InForce.{found_if_any};
+ghost use Rattle.bit_abbrev.specs.Ready.{later_list, table_of};
 
-use crate::{Abbrev, InfoTable, Plan};
+use crate::builder::InfoBuilder;
+use crate::finished::FinishedInfo;
+use crate::found::Found;
+use crate::from_table::FromTable;
+use crate::ready::{Later, Room, place_of};
+use crate::{Abbrev, Plan};
 use std::alloc::{AllocError, Global};
+use std::boxed::Box;
 use std::marker::Model;
 use std::rc::Rc;
 
 /// A finished table. The blocks that are entered under it share it.
 #[derive(Drop)]
 pub struct SharedInfo {
-    table: Option<Rc<InfoTable>>,
+    table: Option<Rc<FinishedInfo>>,
 }
 
 impl Model for SharedInfo {
-    ghost use Rattle.std.specs.Prelude.{ℕ, List};
-    ghost use Rattle.bit_grammar.specs.declared.op.Op.{Op};
-
-    ghost Value = { List (ℕ × List (List Op)) };
-
-    ghost use Rattle.std.specs.Prelude.{[]};
     ghost use Rattle.std.specs.Option.{option_map_or};
+    ghost use Rattle.bit_abbrev.specs.InForce.{finished};
+    ghost use Rattle.bit_abbrev.specs.Ready.{InfoLists, no_lists};
 
-    ghost view = { λ shared. option_map_or (λ rc. rc.value) shared.table [] };
+    ghost Value = { InfoLists };
+
+    ghost view = { λ shared. option_map_or (λ rc. finished rc.value) shared.table no_lists };
 }
 
 impl SharedInfo {
     /// A table without definitions. It allocates nothing.
     pub fn new() -> SharedInfo
-        ensures { result ≡ [] }
+        ensures { table_of result ≡ no_definitions }
     {
         SharedInfo { table: None }
     }
 
     /// Shares a finished table. If an allocation fails, the table is dropped.
-    pub fn share(alloc: Global, table: InfoTable) -> Result<SharedInfo, AllocError>
-        ensures { IfOk result (λ shared. shared ≡ table) }
+    pub fn share(alloc: Global, table: InfoBuilder) -> Result<SharedInfo, AllocError>
+        ensures { IfOk result (λ shared. table_of shared ≡ table_of table.made) }
     {
-        let table = Rc::new(alloc, table)?;
+        let InfoBuilder { groups, later, .. } = table;
+        if groups.len() > u32::MAX as usize {
+            return Err(AllocError);
+        }
+        let later = Later::in_order(later, alloc)?;
+        let table = Rc::new(alloc, FinishedInfo { groups, later })?;
         Ok(SharedInfo { table: Some(table) })
     }
 
     /// The definitions in force at the beginning of a block with this id. Fails only if the table has some for the id and its
     /// reference count is exhausted.
     pub fn enter(&self, alloc: Global, id: u32) -> Result<InForce, AllocError>
-        ensures ok { IfOk result (λ definitions. definitions ≡ definitions_at self.now id) }
+        ensures all { IfOk result (λ definitions. definitions.all ≡ table_of self.now id) }
+        ensures newest { IfOk result (λ definitions. definitions.newest ≡ None) }
     {
-        let own = Vec::new(alloc);
         let Some(table) = &self.table else {
-            return Ok(InForce { shared: None, own });
+            return Ok(InForce::new(alloc));
         };
-        if table.for_block(id).is_empty() {
-            return Ok(InForce { shared: None, own });
+        let place = place_of(table.groups.as_slice(), id);
+        if place == table.groups.len() && table.later.len() == 0 {
+            return Ok(InForce::new(alloc));
         }
         Ok(InForce {
-            shared: Some((table.clone()?, id)),
-            own,
+            alloc,
+            shared: Some(FromTable {
+                table: table.clone()?,
+                id,
+                place: place as u32,
+            }),
+            own: Vec::new(alloc),
+            room: Room::all(),
+            later: None,
         })
     }
 }
@@ -66,148 +86,183 @@ impl SharedInfo {
 /// The definitions in force in a block: first those of the table, then the block's own.
 #[derive(Drop)]
 pub struct InForce {
-    /// The table, and the id of the block.
-    shared: Option<(Rc<InfoTable>, u32)>,
+    alloc: Global,
+    shared: Option<FromTable>,
+    /// The block's own definitions that are ready,
     own: Vec<Abbrev>,
+    room: Room,
+    /// and those behind them.
+    later: Option<Box<Later>>,
 }
 
 impl Model for InForce {
-    ghost use Rattle.std.specs.Prelude.{List, [], ◌++◌};
+    ghost use Rattle.std.specs.Prelude.{[], ◌++◌};
     ghost use Rattle.std.specs.Option.{option_map_or};
-    ghost use Rattle.bit_grammar.specs.declared.op.Op.{Op};
-    ghost use Rattle.bit_abbrev.specs.Table.{definitions_at};
+    ghost use Rattle.bit_abbrev.specs.HeldLists.{all_of};
+    ghost use Rattle.bit_abbrev.specs.InForce.{DefinitionsInForce, finished};
+    ghost use Rattle.bit_abbrev.specs.Ready.{later_list, newest_of, table_of};
 
-    ghost Value = { List (List Op) };
+    ghost Value = { DefinitionsInForce };
 
-    ghost view = { λ inside. option_map_or (λ shared. definitions_at shared.0.value shared.1) inside.shared
-        [] ++ inside.own.items };
+    ghost view = { λ inside. record {
+      all = option_map_or (λ shared. table_of (finished shared.table.value) shared.id) inside.shared []
+          ++ (inside.own.items ++ all_of (later_list inside.later));
+      newest = newest_of inside.own.items inside.later;
+    } };
 }
 
-/// The definitions in force in a block, as two lists: the table's and the block's own.
+/// The definitions in force in a block that are ready, as two lists: the table's and the block's own.
 #[derive(Drop)]
 pub struct Definitions<'a> {
+    in_force: &'a InForce,
     shared: &'a [Abbrev],
+    /// How many are the table's.
+    count: usize,
     own: &'a [Abbrev],
 }
 
 impl<'a> Model for Definitions<'a> {
-    ghost use Rattle.std.specs.Prelude.{List, ◌++◌};
+    ghost use Rattle.std.specs.Prelude.{List};
     ghost use Rattle.bit_grammar.specs.declared.op.Op.{Op};
+    ghost use Rattle.bit_abbrev.specs.Ready.{AreReady};
 
     ghost Value = { List (List Op) };
 
-    ghost view = { λ all. all.shared.now ++ all.own.now };
+    ghost view = { λ definitions. definitions.in_force.now.all };
+
+    ghost invariant = { λ definitions. AreReady definitions.in_force.now.all definitions.shared.now definitions.count
+        definitions.own.now };
 }
 
 impl<'a> Definitions<'a> {
-    /// The definition at an index, if there is one.
+    /// The definition at an index. `None` if there is none, or if it is held in few bytes.
     #[inline(always)]
     pub fn get(&self, index: usize) -> Option<&'a Abbrev>
-        ensures { option_copied result ≡ slice_get self.now index }
+        ensures { IfSome result (λ found. slice_get self.now index ≡ Some found.now) }
     {
         if index < self.shared.len() {
-            self.shared.get(index)
-        } else {
-            self.own.get(index - self.shared.len())
+            return self.shared.get(index);
         }
+        self.own.get(index.checked_sub(self.count)?)
     }
 }
 
-/// Definitions in force, which are looked up by index.
-pub trait Lookup {
-    ghost use Rattle.std.specs.Prelude.{List};
-    ghost use Rattle.bit_grammar.specs.declared.op.Op.{Op};
-
-    // The definitions in order.
-    ghost listed: { Self → List (List Op) };
-
-    /// The definition at an index, if there is one.
-    fn look_up(&self, index: usize) -> Option<&Abbrev>
-        ensures { option_copied result ≡ slice_get (listed self.now) index };
-}
-
-impl<'a> Lookup for Definitions<'a> {
-    ghost listed = { λ definitions. definitions };
-
-    #[inline(always)]
-    fn look_up(&self, index: usize) -> Option<&Abbrev> {
-        self.get(index)
+/// The block's own definition at an index, if there is one.
+fn find_own<'a>(
+    alloc: Global,
+    own: &'a [Abbrev],
+    later: &Option<Box<Later>>,
+    index: usize,
+) -> Result<Option<Found<'a>>, AllocError>
+    ensures { IfOk result (λ found. found_if_any found
+        ≡ slice_get (own.now ++ all_of (later_list later.now)) index) }
+{
+    if let Some(abbrev) = own.get(index) {
+        return Ok(Some(Found::Ready(abbrev)));
     }
-}
-
-/// Each look-up searches the table. For many look-ups, `InForce::all` searches it once.
-impl Lookup for InForce {
-    ghost listed = { λ definitions. definitions };
-
-    #[inline(always)]
-    fn look_up(&self, index: usize) -> Option<&Abbrev> {
-        self.get(index)
+    let Some(later) = later else {
+        return Ok(None);
+    };
+    let place = index - own.len();
+    if place >= later.list.len() {
+        return Ok(None);
     }
+    Ok(Some(Found::Made(later.list.copy(alloc, place)?)))
 }
 
 impl InForce {
     /// No definitions. It allocates nothing.
     pub fn new(alloc: Global) -> InForce
-        ensures { result ≡ [] }
+        ensures all { result.all ≡ [] }
+        ensures newest { result.newest ≡ None }
     {
         InForce {
+            alloc,
             shared: None,
             own: Vec::new(alloc),
+            room: Room::all(),
+            later: None,
         }
     }
 
     /// Adds a definition of the block. If an allocation fails, the definition is dropped.
     pub fn define(&mut self, abbrev: Abbrev) -> Result<(), AllocError>
-        ensures ok { OnOk result (self.new ≡ self.old ++ «abbrev» ∷ []) }
+        ensures all { OnOk result (self.new.all ≡ self.old.all ++ «abbrev» ∷ []) }
+        ensures newest { OnOk result (self.new.newest ≡ Some «abbrev») }
         ensures err { OnErr result (self.new ≡ self.old) }
     {
-        self.own.push(abbrev)?;
-        Ok(())
+        if self.later.is_none() && self.room.take(abbrev.ops().len()) {
+            self.own.push(abbrev)?;
+            return Ok(());
+        }
+        Later::add(&mut self.later, self.alloc, 0, abbrev)
     }
 
     /// The plans of the first definitions, possibly none.
+    #[inline]
     pub fn plans(&self) -> &[Plan]
-        ensures { ArePlans self.now result.now }
+        ensures { ArePlans self.now.all result.now }
     {
-        match &self.shared {
-            Some((table, id)) => table.plans_for(*id),
+        let Some(shared) = &self.shared else {
+            return &[];
+        };
+        match shared.group() {
+            Some(group) => group.plans(),
             None => &[],
         }
     }
 
-    /// All of them, for many look-ups.
+    /// All of them, for many look-ups of those that are ready.
     #[inline]
     pub fn all(&self) -> Definitions<'_>
-        ensures { result ≡ self.now }
+        ensures { result ≡ self.now.all }
     {
-        let shared = match &self.shared {
-            Some((table, id)) => table.for_block(*id),
-            None => &[],
+        let own = self.own.as_slice();
+        let Some(shared) = &self.shared else {
+            return Definitions {
+                in_force: self,
+                shared: &[],
+                count: 0,
+                own,
+            };
         };
         Definitions {
-            shared,
-            own: self.own.as_slice(),
+            in_force: self,
+            shared: shared.ready(),
+            count: shared.len(),
+            own,
         }
     }
 
-    /// The definition at an index, if there is one.
+    /// The definition at an index. `None` if there is none, or if it is held in few bytes.
     #[inline]
     pub fn get(&self, index: usize) -> Option<&Abbrev>
-        ensures { option_copied result ≡ slice_get self.now index }
+        ensures { IfSome result (λ found. slice_get self.now.all index ≡ Some found.now) }
     {
         self.all().get(index)
     }
 
-    /// The last definition that the block added, or else the last one of the table.
-    pub fn last(&self) -> Option<&Abbrev>
-        ensures { option_copied result ≡ slice_get self.now (length self.now - 1) }
+    /// The definition at an index, if there is one. One that is held in few bytes is made anew.
+    pub fn find(&self, index: usize) -> Result<Option<Found<'_>>, AllocError>
+        ensures { IfOk result (λ found. found_if_any found ≡ slice_get self.now.all index) }
     {
-        if let Some(own) = self.own.last() {
-            return Some(own);
+        let mut count = 0;
+        if let Some(shared) = &self.shared {
+            count = shared.len();
+            if index < count {
+                return shared.find(self.alloc, index);
+            }
         }
-        match &self.shared {
-            Some((table, id)) => table.for_block(*id).last(),
-            None => None,
+        find_own(self.alloc, self.own.as_slice(), &self.later, index - count)
+    }
+
+    /// The last definition that the block added, if there is one.
+    pub fn newest(&self) -> Option<&Abbrev>
+        ensures { option_copied result ≡ self.now.newest }
+    {
+        match &self.later {
+            Some(later) => Some(&later.newest),
+            None => self.own.last(),
         }
     }
 }

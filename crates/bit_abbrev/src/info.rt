@@ -1,13 +1,10 @@
-//! The table of the abbreviations that BLOCKINFO blocks define, by block id.
+//! The definitions for block ids, as a table of their own.
 
 ghost use Rattle.std.specs.Prelude.{◌≡◌, ℕ, OnOk, OnErr};
 ghost use Rattle.bit_grammar.specs.Terms.{defined_at, no_definitions};
-ghost use Rattle.bit_abbrev.specs.Groups.{AreFirst};
 ghost use Rattle.bit_abbrev.specs.Table.{definitions_at, table_shown};
 
 use crate::Abbrev;
-use crate::groups::PlanGroups;
-use crate::plan::Plan;
 use std::alloc::{AllocError, Global};
 use std::collections::BTreeMap;
 use std::marker::Model;
@@ -18,7 +15,6 @@ use std::marker::Model;
 pub struct InfoTable {
     alloc: Global,
     lists: BTreeMap<u32, Vec<Abbrev>>,
-    groups: PlanGroups,
 }
 
 impl Model for InfoTable {
@@ -27,13 +23,9 @@ impl Model for InfoTable {
 
     ghost Value = { List (ℕ × List (List Op)) };
 
-    ghost use Rattle.bit_abbrev.specs.Groups.{HavePlans};
-    ghost use Rattle.bit_abbrev.specs.Table.{definitions_at, table_shown};
+    ghost use Rattle.bit_abbrev.specs.Table.{table_shown};
 
     ghost view = { λ table. table_shown table.lists.entries };
-
-    ghost invariant = { λ table. HavePlans (definitions_at (table_shown table.lists.entries))
-        table.groups.groups.items };
 }
 
 /// Adds a definition to those for a block id. If an allocation fails, it is dropped.
@@ -60,29 +52,14 @@ fn add(
 }
 
 impl InfoTable {
-    /// A table without definitions, which makes no plans of later ones.
+    /// A table without definitions. It allocates nothing.
     pub fn new(alloc: Global) -> InfoTable
-        ensures { (id : ℕ) → definitions_at result id ≡ no_definitions id }
-    {
-        InfoTable::with_plans(alloc, 0)
-    }
-
-    /// A table without definitions, which makes plans of later ones, at most so many.
-    pub fn with_plans(alloc: Global, most: usize) -> InfoTable
         ensures { (id : ℕ) → definitions_at result id ≡ no_definitions id }
     {
         InfoTable {
             alloc,
             lists: BTreeMap::new(alloc),
-            groups: PlanGroups::new(alloc, most),
         }
-    }
-
-    /// The plans of the first definitions for a block id, possibly none.
-    pub(crate) fn plans_for(&self, id: u32) -> &[Plan]
-        ensures { AreFirst (definitions_at self.now id) result.now }
-    {
-        self.groups.plans_for(id)
     }
 
     /// The definitions for a block id, possibly none.
@@ -102,15 +79,6 @@ impl InfoTable {
             other) }
         ensures err { OnErr result (self.new ≡ self.old) }
     {
-        let before = self.for_block(id).len();
-        self.groups.add(self.alloc, id, before, abbrev.ops());
-        match add(&mut self.lists, self.alloc, id, abbrev) {
-            Ok(()) => Ok(()),
-            Err(error) => {
-                // One of the plans is of no definition.
-                self.groups.clear();
-                Err(error)
-            }
-        }
+        add(&mut self.lists, self.alloc, id, abbrev)
     }
 }

@@ -14,7 +14,7 @@ use Rattle.bit_events.proofs.Runs.{gathers_then, passed_both}
 use Rattle.bit_events.proofs.Stepping.{length-frames}
 
 -- records that were passed over were gathered, in a block with ids of this width
-pub run_passed : {G : Type 0} (gathered : G → List Event → G → Type 0) (limits : Limits) (f : Frame) (used : ℕ) (a : BufferedBits) (g : G) (width room : ℕ) (run : PassedRun) (h : G) → f.head.width ≡ width → f.info ≡ None → limits.values - used ≡ room → PassesRun gathered width f.definitions room a g run h
+pub run_passed : {G : Type 0} (gathered : G → List Event → G → Type 0) (limits : Limits) (f : Frame) (used : ℕ) (a : BufferedBits) (g : G) (width room : ℕ) (run : PassedRun) (h : G) → f.head.width ≡ width → f.info ≡ None → limits.values - used ≡ room → PassesRun gathered width f.definitions.all room a g run h
     → GathersRun gathered limits f used a g (used + (room - run.room)) run.after h
 run_passed gathered limits f used a g width room run h same plain left p =
     let q = p.1 in

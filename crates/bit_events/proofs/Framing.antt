@@ -1,11 +1,11 @@
 -- Records and definitions in a block, as its frame holds them.
-use Rattle.std.proofs.Common.{◌≡◌, ◌≢◌, ◌⊎◌, ℕ, ◌+◌, ◌-◌, ◌^◌, ◌<◌, Bool, true, false, cond, eqb, ltb, List, [], ◌∷◌, ◌++◌, length, length-append, get_or, Option, Some, None, Result, Ok, Err, is_some, refl, sym, ap, ◌∙◌, subst, slice_get, eq-eqb, arith, inl, inr}
-use Rattle.std.proofs.Math.Seq.{get_or-append_seam}
-use Rattle.std.proofs.Math.Path.{fun_ext}
+use Rattle.std.proofs.Common.{Bor, ◌≡◌, ◌≢◌, ◌⊎◌, ℕ, ◌+◌, ◌-◌, ◌^◌, ◌<◌, Bool, true, false, cond, eqb, ltb, List, [], ◌∷◌, length, get_or, Option, Some, None, Result, Ok, Err, is_some, refl, sym, ap, ◌∙◌, subst, slice_get, eq-eqb, inl, inr}
 use Rattle.std.proofs.lemmas.Bool.{ne_eqb, lt-ltb}
 use Rattle.std.proofs.lemmas.List.{append-nil}
 use borrow.Author.Tests.{ltb-true}
 use Rattle.std.proofs.lemmas.Option.{slice_get_within, get_or_from_slice_get, slice_get-get_or}
+use Rattle.std.specs.Option.{option_copied}
+use Rattle.std.specs.Prelude.{IfSome}
 use Rattle.std.specs.Result.{OnOk}
 use Rattle.std.specs.declared.alloc.AllocError.{AllocError}
 use Rattle.bit_grammar.specs.declared.shapes.Shapes.{Shapes}
@@ -13,55 +13,31 @@ use Rattle.bit_grammar.specs.declared.op.Op.{Op}
 use Rattle.bit_grammar.specs.declared.reason.Reason.TheVariants.{UndefinedAbbrev, AbbrevShape, NoBlockSet, BadSetBid}
 use Rattle.bit_grammar.specs.Grammar.{Grammar, at, gives, refuses, test, choose, ◌>>=◌, ◌>>◌}
 use Rattle.bit_grammar.specs.Record.{unabbreviated, abbreviated}
-use Rattle.bit_grammar.specs.Terms.{CodeAndValues, BlockInfo, Table, defined_at}
+use Rattle.bit_grammar.specs.Terms.{CodeAndValues, BlockInfo, defined_at}
 use Rattle.bit_grammar.specs.Forest.{set_bid, names_block}
-use Rattle.bit_grammar.specs.Blocks.{Handed, Scope, made_for, defined, may_define, define, by_definition, entry, describe, record_after}
+use Rattle.bit_grammar.specs.Blocks.{Handed, Scope, defined, may_define, define, by_definition, entry, describe, record_after}
 use Rattle.bit_grammar.specs.Machine.{scope_of}
 use Rattle.bit_fields.specs.declared.fault.Fault.{Fault}
 use Rattle.bit_fields.specs.declared.fault.Fault.TheVariants.{Memory}
 use Rattle.bit_fields.specs.Reader.{Reader, Took, Why, Takes, told_by, failed_reader}
 use Rattle.bit_fields.proofs.Composing.{took_then, fault_then, took_nothing, first_chosen, second_chosen, holds_then, same_reading}
 use Rattle.bit_grammar.specs.Definition.{definition, has_shape}
-use Rattle.bit_abbrev.specs.Table.{definitions_at}
+use Rattle.bit_abbrev.specs.Bits.{Answers}
+use Rattle.bit_abbrev.specs.Ready.{InfoMade, table_of}
+use Rattle.bit_abbrev.specs.declared.abbrev.Abbrev.{Abbrev}
 use Rattle.bit_abbrev.specs.Values.{AddsWithin, Gains}
 use Rattle.bit_events.proofs.Telling.{told, why, andThen, breaks, ends, here, without_memory}
 use Rattle.bit_events.specs.declared.frame.Describing.{Describing}
 use Rattle.bit_events.specs.declared.frame.Frame.{Frame}
-use Rattle.bit_events.specs.FrameView.{info_shown, described_value, described_id, frame_shown, last_one, newest_for, newest_of, newest_in}
+use Rattle.bit_events.specs.FrameView.{info_shown, described_value, described_id, frame_shown}
 
 -- ---- definitions
 
 -- one more definition for the described block
-pub put_described : (f : Frame) (d : Describing) (id : ℕ) (ops : List Op) (made : List (ℕ × List (List Op))) (result : Result (Unit {0}) AllocError) → f.info ≡ Some d → d.described ≡ Some id → OnOk result ((other : ℕ) → definitions_at made other ≡ defined_at id ops (definitions_at d.made) other)
+pub put_described : (f : Frame) (d : Describing) (id : ℕ) (ops : List Op) (made : InfoMade) (result : Result (Unit {0}) AllocError) → f.info ≡ Some d → d.described ≡ Some id → OnOk result (table_of made.made ≡ defined_at id ops (table_of d.made.made))
     → OnOk result ((handed : Handed) → scope_of (frame_shown (record f { info = Some (record d { made = made }) })) handed ≡ defined (info_shown f.info) ops (scope_of (frame_shown f) handed))
-put_described f d id ops made (Ok x) is described puts = λ handed.
-    let same : definitions_at made ≡ defined_at id ops (definitions_at d.made) = fun_ext puts in
-    rw (is, described, same) refl
+put_described f d id ops made (Ok x) is described puts = λ handed. rw (is, described, puts) refl
 put_described f d id ops made (Err e) is described puts = tt
-
-last_put : (xs : List (List Op)) (x : List Op) → last_one (xs ++ x ∷ []) ≡ Some x
-last_put xs x =
-    let one : length (xs ++ x ∷ []) ≡ length xs + 1 = length-append xs (x ∷ []) in
-    slice_get-get_or (xs ++ x ∷ []) (length (xs ++ x ∷ []) - 1) x (omega (arith, one))
-    ∙ ap (λ (i : ℕ). Some (get_or (xs ++ x ∷ []) i x)) (omega (arith, one))
-    ∙ ap Some (get_or-append_seam xs x [] x)
-
-newest_made : (described : Option ℕ) (ops : List Op) (made : Table) → is_some described ≡ true → newest_for described (made_for described ops made) ≡ Some ops
-newest_made None ops made h = absurd cc
-newest_made (Some id) ops made h = rw (eq-eqb id id refl) (last_put (made id) ops)
-
-abbrev newest_here : Scope → Option (List Op)
-newest_here scope = newest_of scope.definitions scope.info
-
-newest_defined : (info : Option BlockInfo) (ops : List Op) (definitions : List (List Op)) (handed : Handed) → may_define info ≡ true → newest_here (defined info ops (record { definitions = definitions; info = info; handed = handed })) ≡ Some ops
-newest_defined None ops definitions handed h = last_put definitions ops
-newest_defined (Some info) ops definitions handed h = newest_made info.described ops info.made h
-
--- the definition that was put is the newest one
-pub newest_put : (f new : Frame) (ops : List Op) → may_define (info_shown f.info) ≡ true → ((handed : Handed) → scope_of (frame_shown new) handed ≡ defined (info_shown f.info) ops (scope_of (frame_shown f) handed)) → newest_in (frame_shown new) ≡ Some ops
-newest_put f new ops may puts =
-    let some : Handed = record { table = λ id. []; used = 0 } in
-    ap newest_here (puts some) ∙ newest_defined (info_shown f.info) ops f.definitions some may
 
 -- ---- records
 
@@ -106,6 +82,16 @@ no_entry room first id definitions a fault b other none why =
     by true is =
         let some : None ≡ Some (get_or definitions (id - 4) []) = sym none ∙ slice_get-get_or definitions (id - 4) [] (ltb-true (id - 4) (length definitions) is) in
         absurd cc
+
+-- a definition that is ready is the one in force
+pub ready_is : (ready : Option (Bor Abbrev)) (found : Option (List Op)) → is_some ready ≡ true → IfSome ready (λ one. found ≡ Some one.now) → option_copied ready ≡ found
+ready_is None found some is = absurd cc
+ready_is (Some one) found some is = sym is
+
+-- what is said of a result for each fault that it means
+pub by_fault : {A : Type 0} (P : Result A Fault → Type 0) (result : Result A Fault) → Answers (λ (miss fault : Fault). fault ≡ miss) P result → P result
+by_fault P (Ok x) h = h
+by_fault P (Err fault) h = h fault refl
 
 -- adding a record by one rule is adding it by another
 pub added_as : {V : Type 0} (took : V → List ℕ → Type 0) (v w : V) (rule other : Grammar CodeAndValues) (room : ℕ) (a b : Reader) → ((r : Result CodeAndValues Fault) → Takes rule a r b → Takes other a r b) → (result : Result ℕ Fault) → Gains took v w (AddsWithin rule room a result b) → Gains took v w (AddsWithin other room a result b)

@@ -99,7 +99,7 @@ are_collected limits m n a b events some =
     append_cancel_left before.0 some.events events (some.gathers before.0 before.0 (sym (append-nil before.0)) before.1).0
 
 -- A run of records in the bits `from`, which had been read up to a bit.
-pub run_given : (limits : Limits) (f : Frame) (used : ℕ) (from bits : BufferedBits) (width room first : ℕ) (records : List RecordMark) (run : PassedRun) → width ≡ f.head.width → is_some f.info ≡ false → limits.values - used ≡ room → bits ≡ beyond from (first - from.position) → PassesRecords width f.definitions room bits records run
+pub run_given : (limits : Limits) (f : Frame) (used : ℕ) (from bits : BufferedBits) (width room first : ℕ) (records : List RecordMark) (run : PassedRun) → width ≡ f.head.width → is_some f.info ≡ false → limits.values - used ≡ room → bits ≡ beyond from (first - from.position) → PassesRecords width f.definitions.all room bits records run
     → GathersRun collected limits f used (beyond from (first - from.position)) [] (used + (room - run.room)) run.after (map notes records)
 run_given limits f used from bits width room first records run wide plain left here passes = rw (← here) (passes.passes limits f used (sym wide) (none_some f.info plain) refl left)
 

@@ -3,7 +3,7 @@ use Rattle.std.proofs.Common.{◌≡◌, ◌≢◌, ℕ, zero, suc, ◌+◌, ◌
 use Rattle.std.specs.declared.alloc.AllocError.{AllocError}
 use Rattle.std.proofs.lemmas.List.{append-nil, length-drop, map-append}
 use Rattle.bit_grammar.specs.declared.op.Op.{Op}
-use Rattle.bit_grammar.specs.Blocks.{Limits, by_definition, entry}
+use Rattle.bit_grammar.specs.Blocks.{by_definition, entry}
 use Rattle.bit_grammar.specs.Fields.{fixed}
 use Rattle.bit_grammar.specs.Machine.{Event, notes}
 use Rattle.bit_grammar.specs.Marks.{RecordMark}
@@ -15,7 +15,6 @@ use Rattle.bit_abbrev.specs.declared.plan.Passed.{Passed}
 use Rattle.bit_abbrev.specs.declared.plan.Plan.{Plan}
 use Rattle.bit_abbrev.specs.Plans.{ArePlans, IsPlan, PassesOver}
 use Rattle.bit_abbrev.proofs.Buffered.{took_at}
-use Rattle.bit_events.specs.declared.frame.Frame.{Frame}
 use Rattle.bit_events.specs.declared.passing.CountedRecord.{CountedRecord}
 use Rattle.bit_events.specs.declared.passing.PassedRun.{PassedRun}
 use Rattle.bit_events.specs.FrameView.{frame_shown, info_shown}
@@ -125,13 +124,13 @@ one_passed width definitions room a records left b one list c so most id_seen se
       let now : ℕ = used + (room - left) in
       let more : used + (room - (left - length list)) ≡ now + length list = omega (arith, so.less, few) in
       let id_here : Reads (fixed f.head.width) b one.id (beyond b width) = subst (λ (n : ℕ). Reads (fixed n) b one.id (beyond b width)) (sym wide) id_seen in
-      let here : Reads (entry left b.position one.id f.definitions) (beyond b width) (record { code = one.code; values = list }) c = subst (λ (d : List (List Op)). Reads (entry left b.position one.id d) (beyond b width) (record { code = one.code; values = list }) c) (sym same) seen in
+      let here : Reads (entry left b.position one.id f.definitions.all) (beyond b width) (record { code = one.code; values = list }) c = subst (λ (d : List (List Op)). Reads (entry left b.position one.id d) (beyond b width) (record { code = one.code; values = list }) c) (sym same) seen in
       subst (λ (events : List Event). GathersTo collected limits f used a [] (used + (room - (left - length list))) c events) (sym events)
       (gathers_more collected limits f used a [] now b (map notes records) one.id one.code list c (map notes records ++ event ∷ []) (used + (room - (left - length list))) (so.passes limits f used wide plain same all) more
       (λ outer handed used_is.
       let left_is : left ≡ limits.values - handed.used = omega (arith, used_is, all, so.less) in
-      let entry_here : Reads (entry (limits.values - handed.used) b.position one.id f.definitions) (beyond b width) (record { code = one.code; values = list }) c = subst (λ (n : ℕ). Reads (entry n b.position one.id f.definitions) (beyond b width) (record { code = one.code; values = list }) c) left_is here in
-      record_seen limits (frame_shown f) outer handed one.id one.code list b (beyond b width) c (ap info_shown plain) most id_here (took_at (entry (limits.values - handed.used) b.position one.id f.definitions) (beyond b width) (record { code = one.code; values = list }) c entry_here))
+      let entry_here : Reads (entry (limits.values - handed.used) b.position one.id f.definitions.all) (beyond b width) (record { code = one.code; values = list }) c = subst (λ (n : ℕ). Reads (entry n b.position one.id f.definitions.all) (beyond b width) (record { code = one.code; values = list }) c) left_is here in
+      record_seen limits (frame_shown f) outer handed one.id one.code list b (beyond b width) c (ap info_shown plain) most id_here (took_at (entry (limits.values - handed.used) b.position one.id f.definitions.all) (beyond b width) (record { code = one.code; values = list }) c entry_here))
       (λ first done deepest was stands. ap (λ (s : List Event). s ++ event ∷ []) was ∙ append_assoc first (map notes records) (event ∷ [])));
 }
   where

@@ -70,7 +70,7 @@ record_seen limits f outer handed id code list a b c none most seen t =
     new = after_record f outer handed list
 
 -- a record of the innermost block, as the machine holds it
-pub held_seen : (limit : ℕ) (m : Machine) (k : ℕ) (f : Frame) (shown : machine.Frame) (outer : List machine.Frame) (room first id code : ℕ) (list : List ℕ) (after used : ℕ) (a : BufferedBits) → length m.frames.items ≡ suc k → f ≡ get_or m.frames.items k f → frames_shown m.frames.items ≡ shown ∷ outer → f.info ≡ None → limit - m.used ≡ room → used ≡ m.used + length list → (reads : ReadsTo f.definitions room id first a code list after)
+pub held_seen : (limit : ℕ) (m : Machine) (k : ℕ) (f : Frame) (shown : machine.Frame) (outer : List machine.Frame) (room first id code : ℕ) (list : List ℕ) (after used : ℕ) (a : BufferedBits) → length m.frames.items ≡ suc k → f ≡ get_or m.frames.items k f → frames_shown m.frames.items ≡ shown ∷ outer → f.info ≡ None → limit - m.used ≡ room → used ≡ m.used + length list → (reads : ReadsTo f.definitions.all room id first a code list after)
     → Reads (record_rule limit shown outer first id (handed_shown m)) a (record_of id list first (code, after), machine_shown (record m { used = used })) reads.0
 held_seen limit m k f shown outer room first id code list after used a n is split none same more reads =
     let inner = innermost m.frames.items k f shown outer n is split in

@@ -199,11 +199,25 @@ pub plain_is : (frames : List Frame) (k : ℕ) (f : Frame) (plain : Bool) (shown
 plain_is frames k f plain shown outer n is e split = not-not plain ∙ ap not (sym e) ∙ is_none-shown f.info ∙ ap (λ (x : machine.Frame). is_none x.info) (innermost frames k f shown outer n is split)
 
 -- the newest definition of the innermost block
-pub newest_is : (frames : List Frame) (k : ℕ) (f : Frame) (found : Option (List Op)) → length frames ≡ suc k → f ≡ get_or frames k f → found ≡ newest_in (frame_shown f) → found ≡ newest (frames_shown frames)
-newest_is frames k f found n is same = same ∙ sym (ap newest (frames-some frames k f n is))
+newest-last : (frames : List Frame) (k : ℕ) (f : Frame) → length frames ≡ suc k → f ≡ get_or frames k f → newest frames ≡ newest_in f
+newest-last [] k f n is = absurd (omega arith)
+newest-last (a ∷ []) zero f n is = ap newest_in (sym is)
+newest-last (a ∷ []) (suc k) f n is = absurd (omega arith)
+newest-last (a ∷ b ∷ frames) zero f n is = absurd (omega arith)
+newest-last (a ∷ b ∷ frames) (suc k) f n is = newest-last (b ∷ frames) k f (omega arith) is
 
-pub newest_set : (frames : List Frame) (k : ℕ) (new : Frame) → length frames ≡ suc k → newest (frames_shown (set frames k new)) ≡ newest_in (frame_shown new)
-newest_set frames k new n = ap newest (frames_onto-set frames k new [] n)
+pub newest_is : (frames : List Frame) (k : ℕ) (f : Frame) (found : Option (List Op)) → length frames ≡ suc k → f ≡ get_or frames k f → found ≡ newest_in f → found ≡ newest frames
+newest_is frames k f found n is same = same ∙ sym (newest-last frames k f n is)
+
+pub newest_set : (frames : List Frame) (k : ℕ) (new : Frame) → length frames ≡ suc k → newest (set frames k new) ≡ newest_in new
+newest_set [] k new n = absurd (omega arith)
+newest_set (a ∷ []) zero new n = refl
+newest_set (a ∷ []) (suc k) new n = absurd (omega arith)
+newest_set (a ∷ b ∷ frames) zero new n = absurd (omega arith)
+newest_set (a ∷ b ∷ []) (suc zero) new n = refl
+newest_set (a ∷ b ∷ []) (suc (suc k)) new n = absurd (omega arith)
+newest_set (a ∷ b ∷ d ∷ frames) (suc zero) new n = absurd (omega arith)
+newest_set (a ∷ b ∷ d ∷ frames) (suc (suc k)) new n = newest_set (b ∷ d ∷ frames) (suc k) new (omega arith)
 
 -- the machine with another innermost block
 pub set_inside : (frames : List Frame) (k : ℕ) (f new : Frame) (shown : machine.Frame) (outer : List machine.Frame) (handed : Handed) → length frames ≡ suc k → f ≡ get_or frames k f → frames_shown frames ≡ shown ∷ outer → new.head ≡ f.head
@@ -280,8 +294,8 @@ newest_some : (o : Option (List Op)) → IsSome o → o ≡ Some (unwrap_or o []
 newest_some None some = absurd cc
 newest_some (Some ops) some = refl
 
-pub definition_held : (m : Machine) (list : List ℕ) (first after : ℕ) → IsSome (newest (frames_shown m.frames.items)) → HoldsDefinition m (step_shown m list (Define first after))
-definition_held m list first after some = newest_some (newest (frames_shown m.frames.items)) some
+pub definition_held : (m : Machine) (list : List ℕ) (first after : ℕ) → IsSome (newest m.frames.items) → HoldsDefinition m (step_shown m list (Define first after))
+definition_held m list first after some = newest_some (newest m.frames.items) some
 
 -- the effect of a call that began later
 pub left_later : {X : Type 0} (deepest : ℕ) (old : Machine) (a b : Reader) (event : X → Event) (new : Machine) (c : Reader) (result : Result X Fault) → a.position ≤ b.position → IfOk result (λ x. LeavesMachine deepest old b (event x) new c) → IfOk result (λ x. LeavesMachine deepest old a (event x) new c)

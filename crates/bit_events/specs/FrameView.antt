@@ -1,15 +1,15 @@
 -- The model of an open block of the program.
-use Rattle.std.specs.Prelude.{ℕ, ◌^◌, List, [], ◌∷◌, Option, Some, None, nat_lt, if◌then◌else◌, ◌-◌, length, slice_get}
+use Rattle.std.specs.Prelude.{ℕ, ◌^◌, List, [], ◌∷◌, Option, Some, None, nat_lt, if◌then◌else◌}
 use Rattle.bit_grammar.specs.declared.op.Op.{Op}
-use Rattle.bit_grammar.specs.Terms.{BlockInfo, Table}
+use Rattle.bit_grammar.specs.Terms.{BlockInfo}
 use Rattle.bit_grammar.specs.Machine as machine
-use Rattle.bit_abbrev.specs.Table.{definitions_at}
+use Rattle.bit_abbrev.specs.Ready.{table_of}
 use Rattle.bit_events.specs.HeadView.{head_shown}
 use Rattle.bit_events.specs.declared.frame.Describing.{Describing}
 use Rattle.bit_events.specs.declared.frame.Frame.{Frame}
 
 abbrev pub describing_shown : Describing → BlockInfo
-describing_shown d = record { described = d.described; made = definitions_at d.made }
+describing_shown d = record { described = d.described; made = table_of d.made.made }
 
 abbrev pub info_shown : Option Describing → Option BlockInfo
 info_shown None = None
@@ -28,27 +28,17 @@ described_id (id ∷ values) = described_value (Some id)
 abbrev pub frame_shown : Frame → machine.Frame
 frame_shown f = record {
   head = head_shown f.head;
-  definitions = f.definitions;
+  definitions = f.definitions.all;
   info = info_shown f.info;
 }
 
--- ---- the newest definition
+-- the last definition that a block made: its own, or in a BLOCKINFO block one of the table
+abbrev pub newest_of : Option (List Op) → Option Describing → Option (List Op)
+newest_of own None = own
+newest_of own (Some d) = d.made.newest
 
-abbrev pub last_one : List (List Op) → Option (List Op)
-last_one definitions = slice_get definitions (length definitions - 1)
-
-abbrev pub newest_for : Option ℕ → Table → Option (List Op)
-newest_for None made = None
-newest_for (Some id) made = last_one (made id)
-
-abbrev pub newest_of : List (List Op) → Option BlockInfo → Option (List Op)
-newest_of definitions None = last_one definitions
-newest_of definitions (Some info) = newest_for info.described info.made
-
--- The last definition in the list to which a block adds one: those in force, or in a BLOCKINFO block those made for the described
--- block.
-abbrev pub newest_in : machine.Frame → Option (List Op)
-newest_in f = newest_of f.definitions f.info
+abbrev pub newest_in : Frame → Option (List Op)
+newest_in f = newest_of f.definitions.newest f.info
 
 -- ---- the open blocks
 

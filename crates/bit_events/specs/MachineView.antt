@@ -9,22 +9,24 @@ use Rattle.bit_grammar.specs.Machine as machine
 use Rattle.bit_grammar.specs.Machine.{Event, enters, defines, notes, leaves, Frame, scope_of, inside}
 use Rattle.bit_grammar.specs.Steps.{MayStand, open_after}
 use Rattle.bit_fields.specs.Reader.{Reader}
-use Rattle.bit_abbrev.specs.Table.{definitions_at}
+use Rattle.bit_abbrev.specs.Ready.{table_of}
 use Rattle.bit_events.specs.FrameView.{newest_in, frames_shown}
+use Rattle.bit_events.specs.declared.frame.Frame as held
 use Rattle.bit_events.specs.declared.machine.Machine.{Machine}
 use Rattle.bit_events.specs.declared.machine.Step.{Step}
 use Rattle.bit_events.specs.declared.machine.Step.TheVariants as found
 
 abbrev pub handed_shown : Machine → Handed
-handed_shown m = record { table = definitions_at m.table; used = m.used }
+handed_shown m = record { table = table_of m.table; used = m.used }
 
 abbrev pub machine_shown : Machine → machine.Machine
 machine_shown m = record { frames = frames_shown m.frames.items; handed = handed_shown m }
 
--- the newest definition of the innermost block, which is first
-abbrev pub newest : List machine.Frame → Option (List Op)
+-- the last definition that the innermost block made, which is the last of these
+abbrev pub newest : List held.Frame → Option (List Op)
 newest [] = None
-newest (f ∷ outer) = newest_in f
+newest (f ∷ []) = newest_in f
+newest (f ∷ g ∷ frames) = newest (g ∷ frames)
 
 -- ---- events
 
@@ -41,7 +43,7 @@ abbrev pub step_shown : Machine → List ℕ → Step → Event
 step_shown m values (found.Enter id width first body) = enters
     (record { id = id; width = width; first = first; body = body })
 step_shown m values (found.Define first after) = definition_of first after
-    (unwrap_or (newest (frames_shown m.frames.items)) [])
+    (unwrap_or (newest m.frames.items) [])
 step_shown m values (found.Record head) = record_of head.«abbrev» values head.first
     (head.code, head.after)
 step_shown m values (found.Leave after) = leaves after
@@ -56,7 +58,7 @@ bit_after (found.Leave after) = after
 -- the same event as it is lent, if the machine has its definition
 abbrev pub step_lent : Machine → List ℕ → Step → Option Event
 step_lent m values (found.Define first after) = option_map (definition_of first after)
-    (newest (frames_shown m.frames.items))
+    (newest m.frames.items)
 step_lent m values step = Some (step_shown m values step)
 
 -- an event, and the machine after it
@@ -78,7 +80,7 @@ KeepsValues step old new = new ≡ old
 
 -- a definition that was read is the newest one
 abbrev pub HoldsDefinition : Machine → Event → Type 0
-HoldsDefinition m (defines mark) = newest (frames_shown m.frames.items) ≡ Some mark.ops
+HoldsDefinition m (defines mark) = newest m.frames.items ≡ Some mark.ops
 HoldsDefinition m (enters opened) = Unit {0}
 HoldsDefinition m (notes mark) = Unit {0}
 HoldsDefinition m (leaves after) = Unit {0}

@@ -30,7 +30,7 @@ pub record PassesRecords (width : ℕ) (definitions : List (List Op)) (room : �
     (records : List RecordMark) (run : PassedRun) : Type 0 where
   pub less : run.room ≤ room
   pub passes : (limits : Limits) (f : Frame) (used : ℕ) → f.head.width ≡ width → f.info ≡ None
-      → f.definitions ≡ definitions → limits.values - used ≡ room
+      → f.definitions.all ≡ definitions → limits.values - used ≡ room
       → GathersRun collected limits f used a [] (used + (room - run.room)) run.after
       (map notes records)
 
@@ -39,7 +39,7 @@ pub record PassedTo (width : ℕ) (definitions : List (List Op)) (room : ℕ) (a
     (records : List RecordMark) (left : ℕ) (b : BufferedBits) : Type 0 where
   pub less : left ≤ room
   pub passes : (limits : Limits) (f : Frame) (used : ℕ) → f.head.width ≡ width → f.info ≡ None
-      → f.definitions ≡ definitions → limits.values - used ≡ room
+      → f.definitions.all ≡ definitions → limits.values - used ≡ room
       → GathersTo collected limits f used a [] (used + (room - left)) b (map notes records)
 
 -- Records that come first were counted, up to bits before which `left` values may still come. So they come behind any others up to the

@@ -1,20 +1,22 @@
 //! Reading the code and the values of a record by its abbreviation id, from any source of bits.
 
-ghost use Rattle.std.specs.Prelude.{◌≡◌, ◌≤◌, true};
+ghost use Rattle.std.specs.Prelude.{◌≡◌, ◌≢◌, ◌≤◌, ◌-◌, true, List, slice_get};
+ghost use Rattle.std.specs.Option.{option_copied};
+ghost use Rattle.bit_grammar.specs.declared.op.Op.{Op};
 ghost use Rattle.bit_grammar.specs.Blocks.{entry};
 ghost use Rattle.bit_abbrev.specs.Bits.{Answers};
 ghost use Rattle.bit_abbrev.specs.Values.{AddsWithin, Gains, Keeps};
 
-use bit_abbrev::{Lookup, Runs, read_plain, read_record};
+use bit_abbrev::{Abbrev, Runs, read_plain, read_record};
 use bit_fields::{Reason, ValueTaker};
 
 /// Reads the code and the values of a record after its abbreviation id: gives the values to the value sink and returns the code.
-/// The record began at the bit `first`, and may have `room` values. If it fails, some of its values may have been added. For `U`
-/// see `read_record`. Source: "Abbreviation IDs".
+/// `abbrev` is the definition of the id, if there is one. The record began at the bit `first`, and may have `room` values. If it fails,
+/// some of its values may have been added. For `U` see `read_record`. Source: "Abbreviation IDs".
 #[inline(always)]
-pub(crate) fn read_entry<U, B: Runs, D: Lookup, V: ValueTaker>(
+pub(crate) fn read_entry<U, B: Runs, V: ValueTaker>(
     bits: &mut B,
-    definitions: &D,
+    abbrev: Option<&Abbrev>,
     room: u64,
     id: u32,
     first: u64,
@@ -22,15 +24,17 @@ pub(crate) fn read_entry<U, B: Runs, D: Lookup, V: ValueTaker>(
 ) -> Result<u64, B::Miss>
     requires live { (B.as_reader bits.old).live ≡ true }
     requires id { 3 ≤ id }
-    ensures adds { Answers B.faults (λ r. Gains V.took values.old values.new
-        (AddsWithin (entry room first id (D.listed definitions.now)) room (B.as_reader bits.old)
+    ensures adds { (definitions : List (List Op))
+        → (id ≢ 3 → option_copied «abbrev».entry ≡ slice_get definitions (id - 4))
+        → Answers B.faults (λ r. Gains V.took values.old values.new
+        (AddsWithin (entry room first id definitions) room (B.as_reader bits.old)
         r (B.as_reader bits.new))) result }
     ensures keeps { Keeps V.took values.old values.new }
 {
     if id == 3 {
         return read_plain::<U, B, V>(bits, room, values);
     }
-    let Some(abbrev) = definitions.look_up((id - 4) as usize) else {
+    let Some(abbrev) = abbrev else {
         bits.judge(false, Reason::UndefinedAbbrev, first)?;
         unreachable!();
     };

@@ -1,10 +1,11 @@
 ghost use Rattle.std.specs.Prelude.{◌≡◌, ◌-◌, ◌+◌, ◌≤◌, true, [], ℕ, List, Some, OnOk, IsSome, length, unwrap_or, slice_get};
 ghost use Rattle.std.specs.Option.{option_copied};
 ghost use Rattle.bit_grammar.specs.Blocks as blocks;
-ghost use Rattle.bit_grammar.specs.Blocks.{Handed, defined, define, describe, record_after, may_define};
+ghost use Rattle.bit_grammar.specs.Blocks.{Handed, defined, define, describe, entry, record_after, may_define};
 ghost use Rattle.bit_grammar.specs.Machine.{scope_of};
 ghost use Rattle.bit_fields.specs.Reader.{Takes, told_by};
-ghost use Rattle.bit_abbrev.specs.Values.{Has};
+ghost use Rattle.bit_abbrev.specs.InForce.{found_if_any};
+ghost use Rattle.bit_abbrev.specs.Values.{AddsWithin, Gains, Has, Keeps};
 ghost use Rattle.bit_events.specs.Firsts.{TookWithFirst};
 ghost use Rattle.bit_events.specs.FrameView.{describing_shown, info_shown, described_value, frame_shown, newest_in};
 
@@ -12,7 +13,7 @@ use crate::entry::read_entry;
 use crate::head::BlockHead;
 use crate::heads::or_memory_fault;
 use crate::with_first::WithFirst;
-use bit_abbrev::{Abbrev, InForce, InfoTable, read_define};
+use bit_abbrev::{Abbrev, Found, InForce, InfoBuilder, read_define};
 use bit_fields::{BitReader, Fault, Reason, Shapes, Source, ValueTaker};
 use bit_grammar::SET_BID;
 use std::alloc::{AllocError, Global};
@@ -21,7 +22,7 @@ use std::alloc::{AllocError, Global};
 #[derive(Drop)]
 pub(crate) struct Describing {
     pub(crate) described: Option<u32>,
-    pub(crate) made: InfoTable,
+    pub(crate) made: InfoBuilder,
 }
 
 /// An open block: its head, the definitions in force, and in a BLOCKINFO block the block that it describes.
@@ -43,17 +44,13 @@ impl Frame {
         }
     }
 
-    /// The last definition in the list to which a new one is added: the definitions in force, or in a BLOCKINFO block those made
-    /// for the described block.
+    /// The last definition that the block made, if there is one.
     pub(crate) fn newest(&self) -> Option<&Abbrev>
-        ensures { option_copied result ≡ newest_in (frame_shown self.now) }
+        ensures { option_copied result ≡ newest_in self.now }
     {
         match &self.info {
-            None => self.definitions.last(),
-            Some(info) => match info.described {
-                Some(id) => info.made.for_block(id).last(),
-                None => None,
-            },
+            None => self.definitions.newest(),
+            Some(info) => info.made.newest(),
         }
     }
 
@@ -65,6 +62,7 @@ impl Frame {
             → scope_of (frame_shown self.new) handed
             ≡ defined (info_shown self.old.info) «abbrev»
             (scope_of (frame_shown self.old) handed)) }
+        ensures newest { OnOk result (newest_in self.new ≡ Some «abbrev») }
         ensures head { self.new.head ≡ self.old.head }
     {
         match &mut self.info {
@@ -90,13 +88,13 @@ pub(crate) fn define<S: Source>(
         (define shapes first (scope_of (frame_shown frame.old) handed)) reader.old
         (told_by (λ after. (
           record {
-            ops = unwrap_or (newest_in (frame_shown frame.new)) [];
+            ops = unwrap_or (newest_in frame.new) [];
             first = first;
             after = after;
           },
           scope_of (frame_shown frame.new) handed,
         )) result) reader.new }
-    ensures newest { OnOk result (IsSome (newest_in (frame_shown frame.new))) }
+    ensures newest { OnOk result (IsSome (newest_in frame.new)) }
     ensures head { frame.new.head ≡ frame.old.head }
 {
     reader.judge(frame.may_define(), Reason::NoBlockSet, first)?;
@@ -159,6 +157,65 @@ fn describe<S: Source>(
     }
 }
 
+/// The definition that was found, if there is one.
+fn found_one<'a>(found: &'a Option<Found<'_>>) -> Option<&'a Abbrev>
+    ensures { option_copied result ≡ found_if_any found.now }
+{
+    match found {
+        Some(found) => Some(found.get()),
+        None => None,
+    }
+}
+
+/// Like `read_entry`, by a definition that is held in few bytes, or by none.
+#[cold]
+#[inline(never)]
+fn entry_apart<S: Source, V: ValueTaker>(
+    reader: &mut BitReader<S>,
+    definitions: &InForce,
+    room: u64,
+    id: u32,
+    first: u64,
+    values: &mut WithFirst<V>,
+) -> Result<u64, Fault>
+    requires live { reader.old.live ≡ true }
+    requires id { 4 ≤ id }
+    ensures adds { Gains (TookWithFirst V.took) values.old values.new
+        (AddsWithin (entry room first id definitions.now.all) room reader.old result reader.new) }
+    ensures keeps { Keeps (TookWithFirst V.took) values.old values.new }
+{
+    let found = or_memory_fault(reader, definitions.find((id - 4) as usize))?;
+    let abbrev = found_one(&found);
+    read_entry::<(V,), _, _>(reader, abbrev, room, id, first, values)
+}
+
+/// Like `read_entry`, by the definition of the id, if there is one.
+#[inline(always)]
+fn entry_in<S: Source, V: ValueTaker>(
+    reader: &mut BitReader<S>,
+    definitions: &InForce,
+    room: u64,
+    id: u32,
+    first: u64,
+    values: &mut WithFirst<V>,
+) -> Result<u64, Fault>
+    requires live { reader.old.live ≡ true }
+    requires id { 3 ≤ id }
+    ensures adds { Gains (TookWithFirst V.took) values.old values.new
+        (AddsWithin (entry room first id definitions.now.all) room reader.old result reader.new) }
+    ensures keeps { Keeps (TookWithFirst V.took) values.old values.new }
+{
+    let ready = if id == 3 {
+        None
+    } else {
+        definitions.get((id - 4) as usize)
+    };
+    if id == 3 || ready.is_some() {
+        return read_entry::<V, _, _>(reader, ready, room, id, first, values);
+    }
+    entry_apart(reader, definitions, room, id, first, values)
+}
+
 /// Reads a record, after its id, which began at `first`, and returns its code and the bit after it. The value sink is empty before.
 pub(crate) fn record_after<S: Source, V: ValueTaker>(
     reader: &mut BitReader<S>,
@@ -188,8 +245,7 @@ pub(crate) fn record_after<S: Source, V: ValueTaker>(
     ensures few { Has V.took values.new.taker (λ list. OnOk result (length list ≤ room)) }
     ensures head { frame.new.head ≡ frame.old.head }
 {
-    let definitions = &frame.definitions;
-    let code = read_entry::<V, _, InForce, _>(reader, definitions, room, id, first, values)?;
+    let code = entry_in(reader, &frame.definitions, room, id, first, values)?;
     let after = reader.position();
     describe(reader, &mut frame.info, first, code, values.first)?;
     Ok((code, after))

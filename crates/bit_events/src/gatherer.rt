@@ -98,8 +98,8 @@ pub trait Gatherer {
         room: u64,
     ) -> Result<PassedRun, AllocError>
         requires width { width ≤ 32 }
-        requires plans { ArePlans _definitions.now _plans.now }
-        ensures gathers { IfOk result (λ run. PassesRun gathered width _definitions.now room
+        requires plans { ArePlans _definitions.now.all _plans.now }
+        ensures gathers { IfOk result (λ run. PassesRun gathered width _definitions.now.all room
             (placed bits.entry) self.old run self.new) }
         ensures fails { OnErr result (fails self.old None self.new) }
     {

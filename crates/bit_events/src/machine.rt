@@ -6,7 +6,7 @@ ghost use Rattle.bit_grammar.specs.Machine.{at_start, open_block, open_nested, s
 ghost use Rattle.bit_fields.specs.Reader.{Takes, told_by};
 ghost use Rattle.bit_fields.specs.Buffered.{Reads};
 ghost use Rattle.bit_fields.specs.PlacedView.{placed};
-ghost use Rattle.bit_abbrev.specs.Table.{definitions_at};
+ghost use Rattle.bit_abbrev.specs.Ready.{table_of};
 ghost use Rattle.bit_abbrev.specs.Values.{Gains, Has, Keeps};
 ghost use Rattle.bit_events.specs.Next.{FindsNext};
 ghost use Rattle.bit_events.specs.EventView.{shown_if_any};
@@ -23,7 +23,7 @@ use crate::heads::{
 };
 use crate::running::{buffered_item, buffered_record};
 use crate::with_first::WithFirst;
-use bit_abbrev::{Abbrev, InForce, InfoTable, Planning, SharedInfo};
+use bit_abbrev::{Abbrev, InForce, InfoBuilder, Planning, SharedInfo};
 use bit_fields::{
     BitReader, Buffered, Fault, FieldWidth, Limits, PlacedBits, Reason, Source, ValueTaker,
 };
@@ -98,7 +98,7 @@ impl Machine {
         definitions: InForce,
         info: Option<Describing>,
     ) -> Result<(), AllocError>
-        requires definitions { definitions ≡ definitions_at self.old.table head.id }
+        requires definitions { definitions.all ≡ table_of self.old.table head.id }
         requires info { info_shown info ≡ info_for head.id }
         ensures made { OnOk result (machine_shown self.new
             ≡ inside (head_shown head) (frames_shown self.old.frames.items)
@@ -124,14 +124,14 @@ impl Machine {
         definitions: InForce,
     ) -> Result<(), AllocError>
         requires id { head.id ≡ 0 }
-        requires definitions { definitions ≡ definitions_at self.old.table head.id }
+        requires definitions { definitions.all ≡ table_of self.old.table head.id }
         ensures made { OnOk result (machine_shown self.new
             ≡ inside (head_shown head) (frames_shown self.old.frames.items)
             (enter head.id (handed_shown self.old))) }
         ensures more { OnOk result (vec_len self.new.frames ≡ vec_len self.old.frames + 1) }
         ensures fewer { OnErr result (vec_len self.new.frames ≤ vec_len self.old.frames) }
     {
-        let made = InfoTable::with_plans(alloc, self.planning.at(head.body));
+        let made = InfoBuilder::new(alloc, self.planning.at(head.body));
         let described = None;
         self.push(head, definitions, Some(Describing { described, made }))
     }
@@ -521,14 +521,7 @@ impl Machine {
         }
         let room = self.room(limits);
         let first = buffered.position();
-        let definitions = &frame.definitions;
-        let (abbrev, code) = buffered_item::<V, InForce, V>(
-            buffered,
-            frame,
-            definitions,
-            room,
-            values,
-        )?;
+        let (abbrev, code) = buffered_item::<V, V>(buffered, frame, room, values)?;
         let after = buffered.position();
         self.used += values.count() - before;
         Some(RecordHead {
@@ -695,10 +688,10 @@ impl Machine {
         Ok(Some(step))
     }
 
-    /// The last definition in the list to which the innermost block adds one.
+    /// The last definition that the innermost block made, if there is one.
     #[tactic(auto, using(crate::proofs::Stepping::newest_is))]
     pub(crate) fn newest(&self) -> Option<&Abbrev>
-        ensures { option_copied result ≡ newest (frames_shown self.now.frames.items) }
+        ensures { option_copied result ≡ newest self.now.frames.items }
     {
         match self.frames.last() {
             Some(frame) => frame.newest(),

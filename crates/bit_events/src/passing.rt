@@ -205,10 +205,10 @@ pub fn pass_records<C: RunCounter>(
     counter: &mut C,
 ) -> Result<PassedRun, AllocError>
     requires width { width ≤ 32 }
-    requires plans { ArePlans definitions.now plans.now }
+    requires plans { ArePlans definitions.now.all plans.now }
     requires none { C.counted counter.old [] counter.old }
     ensures passes { IfOk result (λ run. (records : List RecordMark) × C.counted counter.old records counter.new
-        × PassesRecords width definitions.now room (placed bits.entry) records run) }
+        × PassesRecords width definitions.now.all room (placed bits.entry) records run) }
 {
     let mut run = pass_run(bits, width, ByPlans { plans }, room, counter)?;
     if !run.is_over {

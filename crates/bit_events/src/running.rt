@@ -18,7 +18,7 @@ ghost use Rattle.bit_events.specs.Runs.{AddsBehind, GathersRun, ReadsTo, SeesRec
 use crate::entry::read_entry;
 use crate::frame::Frame;
 use crate::gatherer::Gatherer;
-use bit_abbrev::{Definitions, FEW, InForce, Layout, Lookup, MARGIN, Plan, read_few};
+use bit_abbrev::{Abbrev, FEW, InForce, Layout, MARGIN, Plan, read_few};
 use bit_fields::{Buffered, BufferedParts, FieldWidth, Limits, PlacedBits, ValueTaker};
 use std::alloc::AllocError;
 
@@ -37,18 +37,16 @@ pub(crate) fn buffered_record<V: ValueTaker>(
     requires id { 3 ≤ id }
     requires none { V.took values.old [] }
     ensures reads { IfSome result (λ read. Has V.took values.new (λ list.
-        ReadsTo definitions.now room id first buffered.entry read.0 list read.1)) }
+        ReadsTo definitions.now.all room id first buffered.entry read.0 list read.1)) }
     ensures took { TookSome V.took values.new }
 {
     let mut buffered = buffered;
-    match read_entry::<(), Buffered<'_>, InForce, V>(
-        &mut buffered,
-        definitions,
-        room,
-        id,
-        first,
-        values,
-    ) {
+    let abbrev = if id == 3 {
+        None
+    } else {
+        Some(definitions.get((id - 4) as usize)?)
+    };
+    match read_entry::<(), Buffered<'_>, V>(&mut buffered, abbrev, room, id, first, values) {
         Ok(code) => Some((code, buffered.position())),
         Err(_) => None,
     }
@@ -71,16 +69,14 @@ fn record_id(buffered: &mut Buffered<'_>, frame: &Frame) -> Option<u32>
 /// Reads a buffered record and its id, in a block that is no BLOCKINFO block, and returns the id and the code. If the item is no
 /// record, the values stay. For `U` see `read_record`.
 #[inline(always)]
-pub(crate) fn buffered_item<U, D: Lookup, V: ValueTaker>(
+pub(crate) fn buffered_item<U, V: ValueTaker>(
     buffered: &mut Buffered<'_>,
     frame: &Frame,
-    definitions: &D,
     room: u64,
     values: &mut V,
 ) -> Option<(u32, u64)>
     requires took { TookSome V.took values.old }
     requires plain { frame.now.info ≡ None }
-    requires same { D.listed definitions.now ≡ frame.now.definitions }
     ensures sees { IfSome result (λ read. Gains V.took values.old values.new
         (AddsBehind (λ list. (length list ≤ room)
         × SeesRecord frame.now room buffered.old read list buffered.new))) }
@@ -89,7 +85,12 @@ pub(crate) fn buffered_item<U, D: Lookup, V: ValueTaker>(
 {
     let first = buffered.position();
     let id = record_id(buffered, frame)?;
-    match read_entry::<U, Buffered<'_>, D, V>(buffered, definitions, room, id, first, values) {
+    let abbrev = if id == 3 {
+        None
+    } else {
+        Some(frame.definitions.get((id - 4) as usize)?)
+    };
+    match read_entry::<U, Buffered<'_>, V>(buffered, abbrev, room, id, first, values) {
         Ok(code) => Some((id, code)),
         Err(_) => None,
     }
@@ -102,16 +103,13 @@ pub(crate) struct GatheredRun {
     is_over: bool,
 }
 
-/// Whether a record with this id may be passed over.
+/// Whether a record of this definition may be passed over, or one without a definition.
 #[inline(always)]
-fn may_pass(id: u32, definitions: &Definitions<'_>) -> bool
-    requires { 3 ≤ id }
-{
-    id == 3
-        || match definitions.get((id - 4) as usize) {
-            Some(abbrev) => abbrev.layout() != Layout::Odd,
-            None => false,
-        }
+fn may_pass(abbrev: Option<&Abbrev>) -> bool {
+    match abbrev {
+        Some(abbrev) => abbrev.layout() != Layout::Odd,
+        None => true,
+    }
 }
 
 /// Gathers buffered records one by one, until one comes that may be passed over. The first is read in any case.
@@ -149,17 +147,29 @@ pub(crate) fn gather_odd<G: Gatherer>(
                 is_over: true,
             });
         };
+        let abbrev = if id == 3 {
+            None
+        } else {
+            let Some(abbrev) = definitions.get((id - 4) as usize) else {
+                *used = spent;
+                return Ok(GatheredRun {
+                    after: first,
+                    is_over: true,
+                });
+            };
+            Some(abbrev)
+        };
         let passes = passes && (gatherer.passes() || gatherer.takes_few());
-        if passes && may_pass(id, &definitions) {
+        if passes && may_pass(abbrev) {
             *used = spent;
             return Ok(GatheredRun {
                 after: first,
                 is_over: false,
             });
         }
-        let Ok(code) = read_entry::<(G,), Buffered<'_>, Definitions<'_>, G::Values>(
+        let Ok(code) = read_entry::<(G,), Buffered<'_>, G::Values>(
             &mut buffered,
-            &definitions,
+            abbrev,
             room,
             id,
             first,
@@ -263,7 +273,7 @@ fn pass_placed<G: Gatherer>(
     requires least { (bits_of_parts parts).position ≤ first }
     requires there { first - (bits_of_parts parts).position ≤ length (bits_of_parts parts).bits }
     requires plain { frame.now.info ≡ None }
-    requires plans { ArePlans frame.now.definitions plans.now }
+    requires plans { ArePlans frame.now.definitions.all plans.now }
     ensures gathers { IfOk result (λ run. GathersRun G.gathered limits.now frame.now used.old
         (beyond (bits_of_parts parts.entry) (first - (bits_of_parts parts.entry).position))
         gatherer.old used.new run.after gatherer.new) }

@@ -338,7 +338,7 @@ impl<'a> FormBuilder<'a> {
         room: u64,
     ) -> Result<PassedRun, AllocError>
         requires width { width ≤ 32 }
-        ensures { IfOk result (λ run. PassesRun IsFormOf width definitions.now room (placed bits.entry)
+        ensures { IfOk result (λ run. PassesRun IsFormOf width definitions.now.all room (placed bits.entry)
             self.old run self.new) }
     {
         if self.long || !self.standing.is_whole() {

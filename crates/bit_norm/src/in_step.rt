@@ -427,8 +427,8 @@ impl<'a> Comparer<'a> {
         requires width { width ≤ 32 }
         requires found { self.old.compared.found ≡ None }
         requires some { 0 < self.old.passed_to }
-        requires plans { ArePlans definitions.now plans.now }
-        ensures { IfOk result (λ run. PassesRun Matches width definitions.now room (placed bits.entry)
+        requires plans { ArePlans definitions.now.all plans.now }
+        ensures { IfOk result (λ run. PassesRun Matches width definitions.now.all room (placed bits.entry)
             self.old run self.new) }
     {
         let mut equal = EqualRecords {

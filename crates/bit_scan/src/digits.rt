@@ -122,9 +122,10 @@ pub(crate) fn put_byte(byte: u8, bytes: &mut [u8], at: usize) -> usize
     at + 1
 }
 
-/// Writes `count` spaces.
-#[inline(always)]
-pub(crate) fn put_spaces(count: usize, bytes: &mut [u8], at: usize) -> usize
+/// Writes `count` spaces, whatever their number.
+#[cold]
+#[inline(never)]
+fn put_many_spaces(count: usize, bytes: &mut [u8], at: usize) -> usize
     requires { at + count + 15 ≤ length bytes.old }
     ensures end { result ≡ at + count }
     ensures long { length bytes.new ≡ length bytes.old }
@@ -135,6 +136,21 @@ pub(crate) fn put_spaces(count: usize, bytes: &mut [u8], at: usize) -> usize
         put_text([b' '; 16], bytes, at + done);
         done += 16;
     }
+    at + count
+}
+
+/// Writes `count` spaces. Up to 16 are one store: LLVM makes a call of a loop.
+#[inline(always)]
+pub(crate) fn put_spaces(count: usize, bytes: &mut [u8], at: usize) -> usize
+    requires { at + count + 16 ≤ length bytes.old }
+    ensures end { result ≡ at + count }
+    ensures long { length bytes.new ≡ length bytes.old }
+    ensures wrote { take result bytes.new ≡ take at bytes.old ++ (replicate count 32) }
+{
+    if count > 16 {
+        return put_many_spaces(count, bytes, at);
+    }
+    put_text([b' '; 16], bytes, at);
     at + count
 }
 

@@ -115,7 +115,7 @@ pub(crate) fn put_record(
 /// A bit, a space, and two spaces for each block around.
 #[inline(always)]
 fn put_place(around: u32, bit: u64, bytes: &mut [u8], at: usize) -> usize
-    requires { at + 2 * around + 36 ≤ length bytes.old }
+    requires { at + 2 * around + 37 ≤ length bytes.old }
     ensures end { (at ≤ result) × (result ≤ at + 2 * around + 21) }
     ensures long { length bytes.new ≡ length bytes.old }
     ensures wrote { take result bytes.new ≡ take at bytes.old ++ line_front bit around }

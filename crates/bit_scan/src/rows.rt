@@ -305,10 +305,10 @@ impl BlockRow {
         room: u64,
     ) -> Result<PassedRun, AllocError>
         requires width { width ≤ 32 }
-        requires plans { ArePlans definitions.now plans.now }
+        requires plans { ArePlans definitions.now.all plans.now }
         ensures { IfOk result (λ run. (records : List RecordMark)
             × CountsInRow self.old records self.new
-            × PassesRecords width definitions.now room (placed bits.entry) records run) }
+            × PassesRecords width definitions.now.all room (placed bits.entry) records run) }
     {
         let mut counter = RowCounter { row: self, places };
         pass_records(bits, width, plans, definitions, room, &mut counter)
@@ -358,10 +358,10 @@ fn pass_at(
 ) -> Result<PassedRun, AllocError>
     requires within { place < length rows.old }
     requires width { width ≤ 32 }
-    requires plans { ArePlans definitions.now plans.now }
+    requires plans { ArePlans definitions.now.all plans.now }
     ensures keys { keys_of rows.new ≡ keys_of rows.old }
     ensures passes { IfOk result (λ run. (records : List RecordMark)
-        × PassesRecords width definitions.now room (placed bits.entry) records run
+        × PassesRecords width definitions.now.all room (placed bits.entry) records run
         × ((id : ℕ) (tallies : List BlockTally) → AreDistinct (keys_of rows.old)
         → slice_get (keys_of rows.old) place ≡ Some id
         → block_tallies rows.old ≡ cut_rows tallies
@@ -489,9 +489,9 @@ impl BlockRows {
         room: u64,
     ) -> Result<PassedRun, AllocError>
         requires width { width ≤ 32 }
-        requires plans { ArePlans definitions.now plans.now }
+        requires plans { ArePlans definitions.now.all plans.now }
         ensures { IfOk result (λ run. (records : List RecordMark)
-            × PassesRecords width definitions.now room (placed bits.entry) records run
+            × PassesRecords width definitions.now.all room (placed bits.entry) records run
             × ((tallies : List BlockTally) → block_tallies self.old ≡ cut_rows tallies
             → block_tallies self.new ≡ cut_rows (rows_after records id tallies))) }
     {

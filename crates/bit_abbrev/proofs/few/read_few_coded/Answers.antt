@@ -1,4 +1,4 @@
-use Rattle.std.proofs.Common.{◌≡◌, ℕ, ◌-◌, List, length, take, drop, refl, arith}
+use Rattle.std.proofs.Common.{◌≡◌, ◌-◌, List, length, take, drop, refl, arith}
 use Rattle.std.proofs.lemmas.Option.{IfSome_then}
 use Rattle.bit_grammar.specs.declared.op.Op.{Op}
 use Rattle.bit_grammar.specs.FormatDefinition.{op_at}

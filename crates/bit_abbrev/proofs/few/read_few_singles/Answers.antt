@@ -1,4 +1,4 @@
-use Rattle.std.proofs.Common.{◌≤◌, length, take, refl, arith}
+use Rattle.std.proofs.Common.{length, take, refl, arith}
 use Rattle.bit_fields.specs.PlacedView.{placed}
 use Rattle.bit_abbrev.proofs.Singles.{scalars_forward}
 use Rattle.bit_abbrev.proofs.few.read_few_singles.Goals as goal

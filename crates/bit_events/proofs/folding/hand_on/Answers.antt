@@ -1,5 +1,4 @@
 use Rattle.std.proofs.Common.{◌≡◌, ℕ, List, Some, sym}
-use Rattle.bit_events.specs.FrameView.{frames_shown}
 use Rattle.bit_events.specs.MachineView.{newest}
 use Rattle.bit_events.proofs.Folds.{for_each, lost_each}
 use Rattle.bit_events.proofs.folding.hand_on.Goals as goal
@@ -15,7 +14,7 @@ returns-in-Enter-clause-gathers g c = rw c.in-Enter.is (for_each _ (λ (list : L
 
 pub returns-in-Some-clause-gathers : goal.returns-in-Some-clause-gathers
 returns-in-Some-clause-gathers g c =
-    let held : newest (frames_shown c.args.machine.now.frames.items) ≡ Some c.in-Some.abbrev.now = sym c.in-Some.ensures in
+    let held : newest c.args.machine.now.frames.items ≡ Some c.in-Some.abbrev.now = sym c.in-Some.ensures in
     rw (c.in-Define.is, held) (for_each _ (λ (list : List ℕ). g.G.Values.ValueTaker.took c.args.values.now list) c.define.result c.define.ensures.gathers)
 
 pub returns-in-Record-clause-gathers : goal.returns-in-Record-clause-gathers
@@ -32,7 +31,7 @@ returns-in-Leave-clause-fails g c = rw c.in-Leave.is (lost_each _ (λ (list : Li
 
 pub returns-in-Some-clause-fails : goal.returns-in-Some-clause-fails
 returns-in-Some-clause-fails g c =
-    let held : newest (frames_shown c.args.machine.now.frames.items) ≡ Some c.in-Some.abbrev.now = sym c.in-Some.ensures in
+    let held : newest c.args.machine.now.frames.items ≡ Some c.in-Some.abbrev.now = sym c.in-Some.ensures in
     rw (c.in-Define.is, held) (lost_each _ (λ (list : List ℕ). g.G.Values.ValueTaker.took c.args.values.now list) c.define.result c.define.ensures.fails)
 
 pub returns-in-Record-clause-fails : goal.returns-in-Record-clause-fails

@@ -1,10 +1,10 @@
-use Rattle.std.proofs.Common.{◌∙◌, List, [], Option, refl, sym, ap}
+use Rattle.std.proofs.Common.{List, [], Option, refl, ap}
 use Rattle.std.specs.Prelude.{unwrap_or}
 use Rattle.bit_grammar.specs.declared.op.Op.{Op}
 use Rattle.std.proofs.lemmas.Result.{err_from_is_err_and}
 use Rattle.bit_grammar.specs.Machine.{scope_of}
 use Rattle.bit_events.specs.FrameView.{frame_shown, newest_in}
-use Rattle.bit_events.proofs.Framing.{define_judged, define_missed, define_lost, define_took, newest_put}
+use Rattle.bit_events.proofs.Framing.{define_judged, define_missed, define_lost, define_took}
 use Rattle.bit_events.proofs.frame.define.Goals as goal
 
 pub returns-in_err-judge-clause-takes : goal.returns-in_err-judge-clause-takes
@@ -29,10 +29,10 @@ pub returns-clause-takes : goal.returns-clause-takes
 returns-clause-takes g c = λ handed.
     let judged = rw c.may_define.ensures at c.in_ok-judge.ensures.takes in
     let made = rw c.in_ok-or_memory_fault.ensures.ok.0 at c.put.ensures.defined in
-    let newest = newest_put c.args.frame.now c.put.new.self c.in_ok-abbrev.abbrev (sym c.may_define.ensures ∙ c.in_ok-judge.ensures.holds) made in
-    define_took c.args.shapes c.args.first (scope_of (frame_shown c.args.frame.now) handed) c.args.reader.now c.judge.new.self c.in_ok-abbrev.abbrev c.read_define.new.reader c.or_memory_fault.new.reader c.position-after.result (unwrap_or (newest_in (frame_shown c.put.new.self)) []) (scope_of (frame_shown c.put.new.self) handed) judged c.in_ok-abbrev.ensures.takes c.in_ok-or_memory_fault.ensures.ok.1 c.position-after.ensures.position (ap (λ (o : Option (List Op)). unwrap_or o []) newest) (made handed)
+    let newest = rw c.in_ok-or_memory_fault.ensures.ok.0 at c.put.ensures.newest in
+    define_took c.args.shapes c.args.first (scope_of (frame_shown c.args.frame.now) handed) c.args.reader.now c.judge.new.self c.in_ok-abbrev.abbrev c.read_define.new.reader c.or_memory_fault.new.reader c.position-after.result (unwrap_or (newest_in c.put.new.self) []) (scope_of (frame_shown c.put.new.self) handed) judged c.in_ok-abbrev.ensures.takes c.in_ok-or_memory_fault.ensures.ok.1 c.position-after.ensures.position (ap (λ (o : Option (List Op)). unwrap_or o []) newest) (made handed)
 
 pub returns-clause-newest : goal.returns-clause-newest
 returns-clause-newest g c =
-    let made = rw c.in_ok-or_memory_fault.ensures.ok.0 at c.put.ensures.defined in
-    rw (newest_put c.args.frame.now c.put.new.self c.in_ok-abbrev.abbrev (sym c.may_define.ensures ∙ c.in_ok-judge.ensures.holds) made) refl
+    let newest = rw c.in_ok-or_memory_fault.ensures.ok.0 at c.put.ensures.newest in
+    rw newest refl

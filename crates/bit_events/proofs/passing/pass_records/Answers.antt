@@ -7,12 +7,12 @@ use Rattle.bit_events.proofs.passing.pass_records.Goals.{then-not-run+in_ok-run-
 
 pub returns : goal.returns
 returns g c =
-    let first = c.in_ok-run.ensures.passes c.args.definitions.now c.requires.plans in
-    let whole : PassesOn g.C.RunCounter.counted c.args.width c.args.definitions.now c.args.counter.now c.args.room (placed c.args.bits) c.if-not-run.counter c.if-not-run.run.room (placed c.if-not-run.run.bits) =
+    let first = c.in_ok-run.ensures.passes c.args.definitions.now.all c.requires.plans in
+    let whole : PassesOn g.C.RunCounter.counted c.args.width c.args.definitions.now.all c.args.counter.now c.args.room (placed c.args.bits) c.if-not-run.counter c.if-not-run.run.room (placed c.if-not-run.run.bits) =
     elim c.if-not-run.branch [
-      | then-not-run+in_ok-run-2 w ↦ rw (w.counter-is, w.run-is) (on_then g.C.RunCounter.counted c.args.width c.args.definitions.now c.args.counter.now c.args.room (placed c.args.bits) _ _ _ _ _ _ first (w.in_ok-run-2.ensures.passes c.args.definitions.now w.all-all.ensures))
+      | then-not-run+in_ok-run-2 w ↦ rw (w.counter-is, w.run-is) (on_then g.C.RunCounter.counted c.args.width c.args.definitions.now.all c.args.counter.now c.args.room (placed c.args.bits) _ _ _ _ _ _ first (w.in_ok-run-2.ensures.passes c.args.definitions.now.all w.all-all.ensures))
       | else-not-run w ↦ rw (w.counter-is, w.run-is) first
     ] in
     record {
-      passes = on_records g.C.RunCounter.counted c.args.width c.args.definitions.now c.args.counter.now c.args.room (placed c.args.bits) c.if-not-run.counter c.if-not-run.run.room (placed c.if-not-run.run.bits) (record { after = c.position.result; room = c.if-not-run.run.room; is_over = c.if-not-run.run.is_over }) whole c.requires.none refl c.position.ensures;
+      passes = on_records g.C.RunCounter.counted c.args.width c.args.definitions.now.all c.args.counter.now c.args.room (placed c.args.bits) c.if-not-run.counter c.if-not-run.run.room (placed c.if-not-run.run.bits) (record { after = c.position.result; room = c.if-not-run.run.room; is_over = c.if-not-run.run.is_over }) whole c.requires.none refl c.position.ensures;
     }

@@ -29,5 +29,5 @@ returns-clause-gathers g c =
     let h = c.pass.new.self in
     let here = c.in-Some.ensures.1 in
     let left : c.args.limits.now.values - c.args.used.now ≡ c.saturating_sub-room.result = omega (arith, c.saturating_sub-room.ensures, c.values.ensures.values) in
-    let passes = subst (λ (b : BufferedBits). PassesRun g.G.Gatherer.gathered c.from.result c.args.frame.now.definitions c.saturating_sub-room.result b c.args.gatherer.now run h) here c.in_ok-run.ensures.gathers in
+    let passes = subst (λ (b : BufferedBits). PassesRun g.G.Gatherer.gathered c.from.result c.args.frame.now.definitions.all c.saturating_sub-room.result b c.args.gatherer.now run h) here c.in_ok-run.ensures.gathers in
     run_passed g.G.Gatherer.gathered c.args.limits.now c.args.frame.now c.args.used.now (beyond (bits_of_parts c.args.parts) (c.args.first - c.args.parts.position)) c.args.gatherer.now c.from.result c.saturating_sub-room.result run h (sym c.from.ensures) c.requires.plain left passes

@@ -1,11 +1,9 @@
-use Rattle.std.proofs.Common.{arith}
-use Rattle.bit_scan.proofs.Forwards.{more_spaces, fewer_spaces}
+use Rattle.std.proofs.Common.{◌≡◌, ◌+◌, ◌++◌, ℕ, arith, replicate, subst, take}
+use Rattle.bit_scan.proofs.Forwards.{fewer_spaces}
 use Rattle.bit_scan.proofs.digits.put_spaces.Goals as goal
 
-pub loop-done-preserved : goal.loop-done-preserved
-loop-done-preserved c =
-    let l = c.loop-done in
-    (omega arith, omega (arith, l.invariant.1, c.put_text.ensures.long), more_spaces l.done c.args.at c.put_text.result c.args.bytes.now l.bytes c.put_text.new.bytes (omega (arith, c.put_text.ensures.end)) l.invariant.2 c.put_text.ensures.wrote)
-
 pub returns-clause-wrote : goal.returns-clause-wrote
-returns-clause-wrote c = fewer_spaces c.args.count c.loop-done.done c.args.at c.args.bytes.now c.loop-done.bytes c.loop-done-test.false (omega arith) c.loop-done.invariant.2
+returns-clause-wrote c =
+    let end : c.put_text.result ≡ c.args.at + 16 = omega (arith, c.put_text.ensures.end) in
+    let wrote = subst (λ (n : ℕ). take n c.put_text.new.bytes ≡ take c.args.at c.args.bytes.now ++ replicate 16 32) end c.put_text.ensures.wrote in
+    fewer_spaces c.args.count 16 c.args.at c.args.bytes.now c.put_text.new.bytes (omega (arith, c.if-count-gt16.false)) (omega (arith, c.requires)) wrote

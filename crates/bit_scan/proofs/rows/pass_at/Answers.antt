@@ -14,4 +14,4 @@ pub returns-clause-passes : goal.returns-clause-passes
 returns-clause-passes c =
     let e = c.index-rows-place.result in
     rw (← c.index-rows-place.is)
-    (run_passed (PassesRecords c.args.width c.args.definitions.now c.args.room (placed c.args.bits)) c.pass.result c.args.rows.now e.0 c.args.place e.1 c.pass.new.self (rw (← c.index-rows-place.is) at (slice_get-get_or c.args.rows.now c.args.place e c.requires.within)) (rw (← c.index-rows-place.is) at c.pass.ensures))
+    (run_passed (PassesRecords c.args.width c.args.definitions.now.all c.args.room (placed c.args.bits)) c.pass.result c.args.rows.now e.0 c.args.place e.1 c.pass.new.self (rw (← c.index-rows-place.is) at (slice_get-get_or c.args.rows.now c.args.place e c.requires.within)) (rw (← c.index-rows-place.is) at c.pass.ensures))

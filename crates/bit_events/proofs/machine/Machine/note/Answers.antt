@@ -1,6 +1,6 @@
 use Rattle.std.proofs.Common.{◌≡◌, ◌-◌, ◌+◌, ◌^◌, ◌≤◌, ℕ, length, min, vec_len, arith, refl, sym}
 use Rattle.std.proofs.lemmas.Result.{err_from_is_err_and}
-use Rattle.bit_abbrev.specs.Table.{definitions_at}
+use Rattle.bit_abbrev.specs.Ready.{table_of}
 use Rattle.bit_events.specs.MachineView.{handed_shown}
 use Rattle.bit_events.proofs.Stepping.{held_record_missed, held_record_took}
 use Rattle.bit_events.proofs.machine.Machine.note.Goals as goal
@@ -34,7 +34,7 @@ returns-clause-takes g c =
       read.0,
       read.1,
       λ f outer split.
-          held_record_took c.args.limits.now.values c.args.self.now.frames.items (vec_len c.args.self.now.frames - 1) c.in-Some.frame.now c.record_after.new.frame f outer c.args.first c.args.id (handed_shown c.args.self.now) (record { table = definitions_at c.args.self.now.table; used = c.args.self.now.used + length read.0 }) (record { table = definitions_at c.args.self.now.table; used = c.args.self.now.used + c.count-count.result }) c.args.reader.now (record { abbreviation = c.args.id; code = c.in_ok-code.code; values = read.0; first = c.args.first; after = c.in_ok-code.after }) c.record_after.new.reader (omega (arith, c.requires.some, c.args.self.now.frames.ok.0)) c.in-Some.ensures.value split c.in_ok-code.ensures.head (rw many refl) (read.2 c.args.limits.now.values (handed_shown c.args.self.now) room),
+          held_record_took c.args.limits.now.values c.args.self.now.frames.items (vec_len c.args.self.now.frames - 1) c.in-Some.frame.now c.record_after.new.frame f outer c.args.first c.args.id (handed_shown c.args.self.now) (record { table = table_of c.args.self.now.table; used = c.args.self.now.used + length read.0 }) (record { table = table_of c.args.self.now.table; used = c.args.self.now.used + c.count-count.result }) c.args.reader.now (record { abbreviation = c.args.id; code = c.in_ok-code.code; values = read.0; first = c.args.first; after = c.in_ok-code.after }) c.record_after.new.reader (omega (arith, c.requires.some, c.args.self.now.frames.ok.0)) c.in-Some.ensures.value split c.in_ok-code.ensures.head (rw many refl) (read.2 c.args.limits.now.values (handed_shown c.args.self.now) room),
     )
 
 pub returns-clause-leaves : goal.returns-clause-leaves

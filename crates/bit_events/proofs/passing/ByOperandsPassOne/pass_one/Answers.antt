@@ -1,5 +1,4 @@
-use Rattle.std.proofs.Common.{◌≡◌, ◌-◌, List, Some, slice_get, sym, ◌∙◌, ap, arith}
-use Rattle.std.proofs.lemmas.Option.{slice_get-get_or}
+use Rattle.std.proofs.Common.{◌≡◌, List, ◌∙◌, ap, arith}
 use Rattle.bit_grammar.specs.declared.op.Op.{Op}
 use Rattle.bit_fields.specs.Buffered.{BufferedBits, beyond}
 use Rattle.bit_fields.specs.PlacedView.{loaded, placed}
@@ -19,7 +18,7 @@ returns-then-id-eq3-clause-within c =
 pub returns-clause-passes : goal.returns-clause-passes
 returns-clause-passes c =
     let here : placed c.after-2.result ≡ beyond (placed c.args.bits) c.args.width = c.after-2.ensures.rest ∙ ap (beyond (placed c.args.bits)) c.from.ensures in
-    operands_passes c.pass_by_operands.result c.args.self.definitions.now c.in_ok-abbrev.abbrev.now c.args.id c.args.room (placed c.after-2.result) (beyond (placed c.args.bits) c.args.width) here c.if-id-eq3.false (sym c.in_ok-abbrev.ensures) c.pass_by_operands.ensures
+    operands_passes c.pass_by_operands.result c.args.self.definitions.now c.in_ok-abbrev.abbrev.now c.args.id c.args.room (placed c.after-2.result) (beyond (placed c.args.bits) c.args.width) here c.if-id-eq3.false c.in_ok-abbrev.ensures c.pass_by_operands.ensures
 
 pub returns-clause-within : goal.returns-clause-within
 returns-clause-within c =

@@ -5,8 +5,8 @@ use Rattle.bit_norm.proofs.form_builder.FormBuilder.pass_run.Goals as goal
 
 pub returns-then-self : goal.returns-then-self
 returns-then-self c = (
-  (c.none.ensures c.args.width c.args.definitions.now).less,
-  ([], c.none.ensures c.args.width c.args.definitions.now, none_gathered IsFormOf c.args.self.now),
+  (c.none.ensures c.args.width c.args.definitions.now.all).less,
+  ([], c.none.ensures c.args.width c.args.definitions.now.all, none_gathered IsFormOf c.args.self.now),
 )
 
 pub add_run-requires-clause-kept : goal.add_run-requires-clause-kept

@@ -18,7 +18,7 @@ pub returns-in-Some-clause-gathers : goal.returns-in-Some-clause-gathers
 returns-in-Some-clause-gathers c =
     let opened = c.self.inside.open.items in
     let x = c.in-Some.block.now in
-    let definitions = c.args.definitions.now in
+    let definitions = c.args.definitions.now.all in
     let innermost : Some x ≡ slice_get opened (length opened - 1) = subst (λ (blocks : List CountedBlock). Some x ≡ slice_get blocks (length blocks - 1)) c.deref.ensures.value c.in-Some.ensures.value in
     subst (λ (old : Counts). IfOk c.pass.result (λ run. PassesRun (λ (first : Counter) (events : List Event) (last : Counts). last ≡ capped_counts (count_events events no_counts)) c.args.width definitions c.args.room (placed c.args.bits) old run (record { rows = block_tallies c.pass.new.self; around = open_counts opened }))) c.self.view_is
     (both_told _ _ c.pass.result (IfOk-weaker c.pass.result _ _ (λ run passed. passed.1.less) c.pass.ensures)
@@ -26,4 +26,4 @@ returns-in-Some-clause-gathers c =
 
 pub returns-in-None-clause-gathers : goal.returns-in-None-clause-gathers
 returns-in-None-clause-gathers c =
-    ((c.none.ensures 0 []).less, ([], c.none.ensures c.args.width c.args.definitions.now, none_gathered (λ (first : Counter) (events : List Event) (last : Counts). last ≡ capped_counts (count_events events no_counts)) c.args.self.now))
+    ((c.none.ensures 0 []).less, ([], c.none.ensures c.args.width c.args.definitions.now.all, none_gathered (λ (first : Counter) (events : List Event) (last : Counts). last ≡ capped_counts (count_events events no_counts)) c.args.self.now))

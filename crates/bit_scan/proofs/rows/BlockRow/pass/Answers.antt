@@ -9,4 +9,4 @@ pass_records-requires-clause-none c = record { same = refl; counts = λ id tally
 
 pub returns : goal.returns
 returns c =
-    row_left (PassesRecords c.args.width c.args.definitions.now c.args.room (placed c.args.bits)) c.pass_records.result _ c.pass_records.new.counter.row _ (search rules) c.pass_records.ensures.passes
+    row_left (PassesRecords c.args.width c.args.definitions.now.all c.args.room (placed c.args.bits)) c.pass_records.result _ c.pass_records.new.counter.row _ (search rules) c.pass_records.ensures.passes

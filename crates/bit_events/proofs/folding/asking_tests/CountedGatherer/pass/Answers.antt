@@ -8,4 +8,4 @@ use Rattle.bit_events.proofs.folding.asking_tests.CountedGatherer.pass.Goals as 
 
 pub returns-clause-gathers : goal.returns-clause-gathers
 returns-clause-gathers c =
-    counted_gathered (λ (first : Counted) (records : List RecordMark) (last : Counted). Unit {0}) (λ (first : Counted) (events : List Event) (last : Counted). Unit {0}) c.args.width c.args.definitions.now c.args.room (placed c.args.bits) c.args.self.now c.pass_records.new.counter c.args.self.now c.pass_records.new.counter c.pass_records.result (λ records counted first done was some. tt) c.pass_records.ensures.passes
+    counted_gathered (λ (first : Counted) (records : List RecordMark) (last : Counted). Unit {0}) (λ (first : Counted) (events : List Event) (last : Counted). Unit {0}) c.args.width c.args.definitions.now.all c.args.room (placed c.args.bits) c.args.self.now c.pass_records.new.counter c.args.self.now c.pass_records.new.counter c.pass_records.result (λ records counted first done was some. tt) c.pass_records.ensures.passes

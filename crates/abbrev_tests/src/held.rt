@@ -1,0 +1,123 @@
+//! Definitions that are held in few bytes, behind those that are ready.
+
+use crate::definitions::{abbrev, add, literal, put};
+use bit_abbrev::{Abbrev, InForce, InfoBuilder, Op, SharedInfo};
+use std::alloc::Global;
+use std::test::Fail;
+
+/// How many definitions are made for each of two ids, and by each block: more than are ready.
+const MADE: u32 = 300;
+
+/// The literal of the definition with this number for an id: of one byte, of two, or of more.
+fn many_at(id: u32, number: u32) -> u64 {
+    let value = 1 + 2 * u64::from(number) + u64::from(id % 2);
+    match number % 3 {
+        0 => value,
+        1 => value << 8,
+        _ => value << 40,
+    }
+}
+
+/// A table with many definitions for the ids 9 and 8, by turns.
+fn many_for_two(alloc: Global) -> Result<SharedInfo, Fail> {
+    let mut table = InfoBuilder::new(alloc, 0);
+    for number in 0..MADE {
+        put(alloc, &mut table, 9, many_at(9, number))?;
+        put(alloc, &mut table, 8, many_at(8, number))?;
+    }
+    Ok(SharedInfo::share(alloc, table)?)
+}
+
+/// A block with this id that adds as many.
+fn many_in_force(alloc: Global, shared: &SharedInfo, id: u32) -> Result<InForce, Fail> {
+    let mut definitions = shared.enter(alloc, id)?;
+    for number in 0..MADE {
+        add(alloc, &mut definitions, many_at(id ^ 1, number))?;
+    }
+    Ok(definitions)
+}
+
+/// The literal of the definition that is found at an index; 0 for none.
+fn literal_at(definitions: &InForce, index: usize) -> Result<u64, Fail> {
+    match definitions.find(index)? {
+        Some(found) => Ok(literal(Some(found.get()))),
+        None => Ok(0),
+    }
+}
+
+/// Whether all definitions of a block are found, in their order.
+fn are_in_order(definitions: &InForce, id: u32) -> Result<bool, Fail> {
+    for number in 0..MADE {
+        let shared = literal_at(definitions, number as usize)?;
+        let own = literal_at(definitions, MADE as usize + number as usize)?;
+        if shared != many_at(id, number) || own != many_at(id ^ 1, number) {
+            return Ok(false);
+        }
+    }
+    Ok(true)
+}
+
+/// Indices of the first and the last definitions that are ready, and of those behind them: 128 of the table, since it has two ids,
+/// and 256 of the block.
+static PLACES: [usize; 7] = [0, 127, 128, 299, 300, 555, 556];
+
+/// Whether the definitions at these indices are ready.
+fn ready_at(definitions: &InForce) -> [bool; 7] {
+    let mut ready = [false; 7];
+    for (place, is_ready) in PLACES.iter().zip(ready.iter_mut()) {
+        *is_ready = definitions.get(*place).is_some();
+    }
+    ready
+}
+
+/// Of a block with many definitions: whether all are found in order, which are ready, the last one, and what is behind all.
+fn many_told(alloc: Global, id: u32) -> Result<(bool, [bool; 7], u64, u64), Fail> {
+    let definitions = many_in_force(alloc, &many_for_two(alloc)?, id)?;
+    let found = are_in_order(&definitions, id)?;
+    let ready = ready_at(&definitions);
+    let behind = literal_at(&definitions, 2 * MADE as usize)?;
+    Ok((found, ready, literal(definitions.newest()), behind))
+}
+
+static READY: [bool; 7] = [true, true, false, false, true, true, false];
+
+#[test]
+fn many_definitions_are_found(rt: HostRuntime) -> Result<(), Fail> {
+    let eight = many_told(rt.alloc(), 8)?;
+    let nine = many_told(rt.alloc(), 9)?;
+    let alike = eight == (true, READY, many_at(9, MADE - 1), 0);
+    assert!(rt; alike && nine == (true, READY, many_at(8, MADE - 1), 0));
+    Ok(())
+}
+
+/// A definition of a literal and as many Char6 operands as are asked.
+fn long_definition(alloc: Global, value: u64, chars: usize) -> Result<Abbrev, Fail> {
+    let mut ops = Vec::new(alloc);
+    ops.push(Op::Literal(value))?;
+    for _index in 0..chars {
+        ops.push(Op::Char6)?;
+    }
+    abbrev(alloc, ops.as_slice())
+}
+
+/// How many operands the definition at an index has, and its literal, if it is found; and whether it is ready.
+fn length_at(definitions: &InForce, index: usize) -> Result<(usize, u64, bool), Fail> {
+    let ready = definitions.get(index).is_some();
+    match definitions.find(index)? {
+        Some(found) => Ok((found.get().ops().len(), literal(Some(found.get())), ready)),
+        None => Ok((0, 0, ready)),
+    }
+}
+
+#[test]
+fn a_long_definition_and_those_behind_it_are_held(rt: HostRuntime) -> Result<(), Fail> {
+    let mut definitions = InForce::new(rt.alloc());
+    add(rt.alloc(), &mut definitions, 1)?;
+    definitions.define(long_definition(rt.alloc(), 2, 2100)?)?;
+    add(rt.alloc(), &mut definitions, 3)?;
+    let first = length_at(&definitions, 0)?;
+    let second = length_at(&definitions, 1)?;
+    let third = length_at(&definitions, 2)?;
+    assert!(rt; first == (1, 1, true) && second == (2101, 2, false) && third == (1, 3, false));
+    Ok(())
+}

@@ -1,0 +1,86 @@
+//! What a block has from a table.
+
+ghost use Rattle.std.specs.Prelude.{◌≡◌, IfOk, length, slice_get};
+ghost use Rattle.std.specs.Option.{option_copied};
+ghost use Rattle.bit_abbrev.specs.Groups.{IsPlaceOf, ready_for};
+ghost use Rattle.bit_abbrev.specs.HeldLists.{IsRunOf};
+ghost use Rattle.bit_abbrev.specs.InForce.{finished, found_if_any};
+ghost use Rattle.bit_abbrev.specs.Ready.{table_of};
+
+use crate::Abbrev;
+use crate::finished::FinishedInfo;
+use crate::found::Found;
+use crate::held::Run;
+use crate::ready::ReadyGroup;
+use std::alloc::{AllocError, Global};
+use std::rc::Rc;
+
+/// The definitions that a block has from a table.
+#[derive(Drop)]
+pub(crate) struct FromTable {
+    pub(crate) table: Rc<FinishedInfo>,
+    /// The id of the block,
+    pub(crate) id: u32,
+    /// and the place of its group.
+    pub(crate) place: u32,
+    ghost found: { IsPlaceOf table.value.groups.items id place },
+}
+
+impl FromTable {
+    /// Its group, if any of them are ready.
+    #[inline(always)]
+    pub(crate) fn group(&self) -> Option<&ReadyGroup>
+        ensures { option_copied result ≡ slice_get self.now.table.value.groups.items self.now.place }
+    {
+        self.table.groups.get(self.place as usize)
+    }
+
+    /// Those that are ready.
+    #[inline(always)]
+    pub(crate) fn ready(&self) -> &[Abbrev]
+        ensures { result.now ≡ ready_for self.now.table.value.groups.items self.now.id }
+    {
+        match self.group() {
+            Some(group) => group.ready(),
+            None => &[],
+        }
+    }
+
+    /// Where the others are.
+    #[cold]
+    #[inline(never)]
+    fn held(&self) -> Run
+        ensures { IsRunOf self.now.table.value.later self.now.id result }
+    {
+        self.table.later.run_of(self.id)
+    }
+
+    /// How many there are.
+    #[inline(always)]
+    pub(crate) fn len(&self) -> usize
+        ensures { result ≡ length (table_of (finished self.now.table.value) self.now.id) }
+    {
+        let ready = self.ready().len();
+        if self.table.later.len() == 0 {
+            return ready;
+        }
+        let held = self.held();
+        ready + (held.end - held.start)
+    }
+
+    /// The definition at an index, if there is one.
+    pub(crate) fn find(&self, alloc: Global, index: usize) -> Result<Option<Found<'_>>, AllocError>
+        ensures { IfOk result (λ found. found_if_any found
+            ≡ slice_get (table_of (finished self.now.table.value) self.now.id) index) }
+    {
+        if let Some(abbrev) = self.ready().get(index) {
+            return Ok(Some(Found::Ready(abbrev)));
+        }
+        let held = self.held();
+        let behind = index - self.ready().len();
+        if behind >= held.end - held.start {
+            return Ok(None);
+        }
+        Ok(Some(Found::Made(self.table.later.copy(alloc, held.start + behind)?)))
+    }
+}

@@ -1,0 +1,189 @@
+//! Definitions that are held in few bytes.
+
+ghost use Rattle.std.specs.Prelude.{◌≡◌, ◌<◌, ◌^◌, ◌++◌, ◌∷◌, [], ℕ, Some, IfOk, IfSome, IfNone, OnOk, OnErr, length, slice_get};
+ghost use Rattle.bit_grammar.specs.FormatDefinition.{Definable};
+ghost use Rattle.bit_abbrev.specs.HeldLists.{all_of, held_for, InOrder, IsRunOf};
+ghost use Rattle.bit_abbrev.specs.HeldOps.{more, ops_in, Extends, Holds};
+
+use crate::abbrev::{Abbrev, Ops};
+use crate::held_op::{HeldOp, push};
+use bit_grammar::Op;
+use std::alloc::{AllocError, Global};
+use std::marker::Model;
+
+/// A definition among others: the id of the blocks that it is for in a table, and 0 in a block; where its operands begin in the list
+/// of all.
+#[derive(Clone, Copy, Drop)]
+pub(crate) struct Head {
+    id: u32,
+    start: u32,
+}
+
+/// Definitions one after another among others: the index of the first one, and the index after the last one.
+#[derive(Clone, Copy, Drop)]
+pub(crate) struct Run {
+    pub(crate) start: usize,
+    pub(crate) end: usize,
+}
+
+/// Operands of a definition that are taken one by one.
+#[derive(Clone, Copy)]
+struct HeldRest<'a> {
+    held: &'a [HeldOp],
+}
+
+/// What the further bytes of a literal add to it, in units of 256.
+fn more(held: &[HeldOp]) -> u64
+    ensures { result ≡ more held.now }
+{
+    match held {
+        [HeldOp::More(byte), rest @ ..] => (u64::from(*byte) + 256 * more(rest)) % (1 << 56),
+        _ => 0,
+    }
+}
+
+impl<'a> HeldRest<'a> {
+    /// Takes the first operand, if there is one.
+    fn next(&mut self) -> Option<Op>
+        ensures some { IfSome result (λ op. ops_in self.old.held.now ≡ op ∷ ops_in self.new.held.now) }
+        ensures none { IfNone result (ops_in self.old.held.now ≡ []) }
+    {
+        while let [first, rest @ ..] = self.held {
+            let op = match *first {
+                HeldOp::Literal(value) => Op::Literal(u64::from(value)),
+                HeldOp::Great(byte) => Op::Literal(u64::from(byte) + 256 * more(rest)),
+                HeldOp::Fixed(width) => Op::Fixed(width),
+                HeldOp::Vbr(width) => Op::Vbr(width),
+                HeldOp::Array => Op::Array,
+                HeldOp::Char6 => Op::Char6,
+                HeldOp::Blob => Op::Blob,
+                HeldOp::End => return None,
+                HeldOp::More(_) => {
+                    self.held = rest;
+                    continue;
+                }
+            };
+            self.held = rest;
+            return Some(op);
+        }
+        None
+    }
+
+    /// The definition with these operands.
+    fn copy(self, alloc: Global) -> Result<Abbrev, AllocError>
+        requires { Definable (ops_in self.held.now) }
+        ensures { IfOk result (λ copy. copy ≡ ops_in self.entry.held.now) }
+    {
+        let mut ops = Ops::new(alloc);
+        let mut left = self;
+        while let Some(op) = left.next() {
+            ops.push(op)?;
+        }
+        Ok(Abbrev::from_definable(ops))
+    }
+}
+
+/// Definitions in order, each with the id of the blocks that it is for; or those of one block.
+///
+/// Their operands stand in one list, two bytes for each, and eight bytes tell where those of a definition begin.
+#[derive(Drop)]
+pub(crate) struct HeldList {
+    held: Vec<HeldOp>,
+    heads: Vec<Head>,
+}
+
+impl Model for HeldList {
+    ghost use Rattle.std.specs.Prelude.{ℕ, List};
+    ghost use Rattle.bit_grammar.specs.declared.op.Op.{Op};
+    ghost use Rattle.bit_abbrev.specs.Heads.{AreHeld};
+    ghost use Rattle.bit_abbrev.specs.HeldLists.{held_shown};
+
+    ghost Value = { List (ℕ × List Op) };
+
+    ghost view = { λ list. held_shown list.held.items list.heads.items };
+
+    ghost invariant = { λ list. AreHeld list.held.items list.heads.items };
+}
+
+/// Adds operands at the end of a list. If there is no memory for all, some may be there.
+fn hold(held: &mut Vec<HeldOp>, ops: &[Op]) -> Result<(), AllocError>
+    ensures ok { OnOk result (Holds held.old.items held.new.items ops.now) }
+    ensures err { OnErr result (Extends held.old.items held.new.items) }
+{
+    for op in ops {
+        push(held, *op)?;
+    }
+    Ok(())
+}
+
+impl HeldList {
+    /// No definitions. It allocates nothing.
+    pub(crate) fn new(alloc: Global) -> HeldList
+        ensures { result ≡ [] }
+    {
+        HeldList {
+            held: Vec::new(alloc),
+            heads: Vec::new(alloc),
+        }
+    }
+
+    /// How many there are.
+    pub(crate) fn len(&self) -> usize
+        ensures len { result ≡ length self.now }
+        ensures few { result < 2 ^ 63 }
+    {
+        self.heads.len()
+    }
+
+    /// Adds a definition for a block id. If an allocation fails, or all have 2^32 operands, nothing changes.
+    pub(crate) fn add(&mut self, id: u32, abbrev: &Abbrev) -> Result<(), AllocError>
+        ensures ok { OnOk result (self.new ≡ self.old ++ (id, «abbrev».now) ∷ []) }
+        ensures err { OnErr result (self.new ≡ self.old) }
+    {
+        let start = self.held.len();
+        if start > u32::MAX as usize {
+            return Err(AllocError);
+        }
+        hold(&mut self.held, abbrev.ops())?;
+        self.held.push(HeldOp::End)?;
+        self.heads.push(Head {
+            id,
+            start: start as u32,
+        })?;
+        Ok(())
+    }
+
+    /// The same definitions in the order of block ids. Those for one id stay in their order.
+    pub(crate) fn in_order(self) -> Result<HeldList, AllocError>
+        ensures order { IfOk result InOrder }
+        ensures same { IfOk result (λ list. (id : ℕ) → held_for list id ≡ held_for self id) }
+    {
+        let HeldList { held, mut heads } = self;
+        heads.sort_by_key(|head| head.id)?;
+        Ok(HeldList { held, heads })
+    }
+
+    /// Where the definitions for a block id are, if all are in the order of ids.
+    pub(crate) fn run_of(&self, id: u32) -> Run
+        requires { InOrder self.now }
+        ensures { IsRunOf self.now id result }
+    {
+        let heads = self.heads.as_slice();
+        Run {
+            start: heads.partition_point(|head| head.id < id),
+            end: heads.partition_point(|head| head.id <= id),
+        }
+    }
+
+    /// The definition at an index.
+    pub(crate) fn copy(&self, alloc: Global, index: usize) -> Result<Abbrev, AllocError>
+        requires { index < length self.now }
+        ensures { IfOk result (λ copy. slice_get (all_of self.now) index ≡ Some copy) }
+    {
+        let start = self.heads[index].start as usize;
+        let rest = HeldRest {
+            held: &self.held[start..],
+        };
+        rest.copy(alloc)
+    }
+}

@@ -1,0 +1,211 @@
+//! Definitions that are ready to be read by, and those behind them.
+
+ghost use Rattle.std.specs.Prelude.{◌≡◌, ◌++◌, ◌∷◌, [], ℕ, IfOk, OnOk, OnErr, Some};
+ghost use Rattle.bit_grammar.specs.Terms.{defined_at};
+ghost use Rattle.bit_abbrev.specs.Groups.{AreFirst, IsPlaceOf, ready_at, ready_for};
+ghost use Rattle.bit_abbrev.specs.HeldLists.{held_for, InOrder};
+ghost use Rattle.bit_abbrev.specs.Ready.{last_one, later_list, newest_of};
+
+use crate::Abbrev;
+use crate::held::HeldList;
+use crate::plan::Plan;
+use std::alloc::{AllocError, Global};
+use std::boxed::Box;
+use std::marker::Model;
+
+/// How many definitions of a table, or own ones of a block, are ready at most. More would take much memory, and real files have
+/// fewer.
+const MOST_READY: u16 = 256;
+
+/// How many operands they have at most.
+const MOST_OPERANDS: u16 = 2048;
+
+/// How many more definitions may be ready.
+#[derive(Clone, Copy, Drop)]
+pub(crate) struct Room {
+    definitions: u16,
+    operands: u16,
+}
+
+impl Room {
+    /// For all of them.
+    pub(crate) fn all() -> Room {
+        Room {
+            definitions: MOST_READY,
+            operands: MOST_OPERANDS,
+        }
+    }
+
+    /// Takes the room of a definition with so many operands, if it is there.
+    #[inline(always)]
+    pub(crate) fn take(&mut self, operands: usize) -> bool {
+        if self.definitions == 0 || operands > usize::from(self.operands) {
+            return false;
+        }
+        self.definitions -= 1;
+        self.operands -= operands as u16;
+        true
+    }
+}
+
+/// The definitions for a block id that are ready, and the plans of the first of them.
+#[derive(Drop)]
+pub(crate) struct ReadyGroup {
+    id: u32,
+    ready: Vec<Abbrev>,
+    plans: Vec<Plan>,
+}
+
+impl Model for ReadyGroup {
+    ghost use Rattle.std.specs.Prelude.{ℕ, List};
+    ghost use Rattle.bit_grammar.specs.declared.op.Op.{Op};
+    ghost use Rattle.bit_abbrev.specs.Groups.{AreFirst};
+
+    ghost Value = { ℕ × List (List Op) };
+
+    ghost view = { λ group. (group.id, group.ready.items) };
+
+    ghost invariant = { λ group. AreFirst group.ready.items group.plans.items };
+}
+
+impl ReadyGroup {
+    /// A group without definitions, with room for one.
+    fn new(alloc: Global, id: u32) -> Result<ReadyGroup, AllocError>
+        ensures { IfOk result (λ group. group ≡ (id, [])) }
+    {
+        Ok(ReadyGroup {
+            id,
+            ready: Vec::with_capacity(alloc, 1)?,
+            plans: Vec::new(alloc),
+        })
+    }
+
+    /// The block id.
+    #[inline(always)]
+    pub(crate) fn id(&self) -> u32
+        ensures { result ≡ self.now.0 }
+    {
+        self.id
+    }
+
+    /// The definitions.
+    #[inline(always)]
+    pub(crate) fn ready(&self) -> &[Abbrev]
+        ensures { result.now ≡ self.now.1 }
+    {
+        self.ready.as_slice()
+    }
+
+    /// The plans of the first of them.
+    #[inline(always)]
+    pub(crate) fn plans(&self) -> &[Plan]
+        ensures { AreFirst self.now.1 result.now }
+    {
+        self.plans.as_slice()
+    }
+
+    /// Adds a definition, and its plan if `left` allows one and all those before it have one. If there is no memory for the plan,
+    /// there is none.
+    fn add(&mut self, abbrev: Abbrev, left: &mut usize) -> Result<(), AllocError>
+        ensures ok { OnOk result (self.new ≡ (self.old.0, self.old.1 ++ «abbrev» ∷ [])) }
+        ensures err { OnErr result (self.new ≡ self.old) }
+    {
+        let plan = if *left > 0 && self.plans.len() == self.ready.len() {
+            Some(Plan::of(abbrev.ops()))
+        } else {
+            None
+        };
+        self.ready.push(abbrev)?;
+        if let Some(plan) = plan {
+            if let Ok(()) = self.plans.push(plan) {
+                *left = left.saturating_sub(1);
+            }
+        }
+        Ok(())
+    }
+}
+
+/// The place of the first group for a block id, or the number of groups if there is none.
+#[inline(always)]
+pub(crate) fn place_of(groups: &[ReadyGroup], id: u32) -> usize
+    ensures { IsPlaceOf groups.now id result }
+{
+    for (place, group) in groups.iter().enumerate() {
+        if group.id() == id {
+            return place;
+        }
+    }
+    groups.len()
+}
+
+/// Adds a definition to those for a block id, as `ReadyGroup::add` does, and returns the place of their group.
+pub(crate) fn add_ready(
+    alloc: Global,
+    groups: &mut Vec<ReadyGroup>,
+    id: u32,
+    abbrev: Abbrev,
+    left: &mut usize,
+) -> Result<usize, AllocError>
+    ensures ok { IfOk result (λ place. (other : ℕ) → ready_for groups.new.items other
+        ≡ defined_at id «abbrev» (ready_for groups.old.items) other) }
+    ensures newest { IfOk result (λ place. last_one (ready_at groups.new.items place) ≡ Some «abbrev») }
+    ensures err { OnErr result (groups.new.items ≡ groups.old.items) }
+{
+    let place = place_of(groups.as_slice(), id);
+    if place < groups.len() {
+        groups[place].add(abbrev, left)?;
+        return Ok(place);
+    }
+    let mut group = ReadyGroup::new(alloc, id)?;
+    group.add(abbrev, left)?;
+    groups.push(group)?;
+    Ok(place)
+}
+
+/// Definitions behind those that are ready, and the last one of them as it was given.
+#[derive(Drop)]
+pub(crate) struct Later {
+    pub(crate) list: HeldList,
+    pub(crate) newest: Abbrev,
+}
+
+impl Later {
+    /// Adds a definition for a block id. If an allocation fails, it is dropped.
+    #[cold]
+    #[inline(never)]
+    pub(crate) fn add(
+        later: &mut Option<Box<Later>>,
+        alloc: Global,
+        id: u32,
+        abbrev: Abbrev,
+    ) -> Result<(), AllocError>
+        ensures list { OnOk result (later_list later.new ≡ later_list later.old ++ (id, «abbrev») ∷ []) }
+        ensures newest { OnOk result (newest_of [] later.new ≡ Some «abbrev») }
+        ensures err { OnErr result (later.new ≡ later.old) }
+    {
+        if let Some(later) = later {
+            later.list.add(id, &abbrev)?;
+            later.newest = abbrev;
+            return Ok(());
+        }
+        let mut list = HeldList::new(alloc);
+        list.add(id, &abbrev)?;
+        let newest = abbrev;
+        *later = Some(Box::new(alloc, Later { list, newest })?);
+        Ok(())
+    }
+
+    /// The definitions in the order of block ids. Those for one id stay in their order.
+    pub(crate) fn in_order(later: Option<Box<Later>>, alloc: Global) -> Result<HeldList, AllocError>
+        ensures order { IfOk result InOrder }
+        ensures same { IfOk result (λ list. (id : ℕ) → held_for list id ≡ held_for (later_list later) id) }
+    {
+        match later {
+            Some(later) => {
+                let Later { list, .. } = Box::into_inner(later);
+                list.in_order()
+            }
+            None => Ok(HeldList::new(alloc)),
+        }
+    }
+}
