@@ -29,6 +29,7 @@ use Rattle.bit_abbrev.specs.Values.{AddsWithin, Gains}
 use Rattle.bit_events.proofs.Telling.{told, why, andThen, breaks, ends, here, without_memory}
 use Rattle.bit_events.specs.declared.frame.Describing.{Describing}
 use Rattle.bit_events.specs.declared.frame.Frame.{Frame}
+use Rattle.bit_events.specs.Runs.{IsDefinition}
 use Rattle.bit_events.specs.FrameView.{info_shown, described_value, described_id, frame_shown}
 
 -- ---- definitions
@@ -84,9 +85,19 @@ no_entry room first id definitions a fault b other none why =
         absurd cc
 
 -- a definition that is ready is the one in force
-pub ready_is : (ready : Option (Bor Abbrev)) (found : Option (List Op)) → is_some ready ≡ true → IfSome ready (λ one. found ≡ Some one.now) → option_copied ready ≡ found
-ready_is None found some is = absurd cc
-ready_is (Some one) found some is = sym is
+pub ready_is : {M : Type 0} (faults : M → Fault → Type 0) (definitions : List (List Op)) (id : ℕ) (ready : Option (Bor Abbrev)) → is_some ready ≡ true → IfSome ready (λ one. slice_get definitions (id - 4) ≡ Some one.now) → IsDefinition faults definitions id (option_copied ready)
+ready_is faults definitions id None some is = absurd cc
+ready_is faults definitions id (Some one) some is = is
+
+-- where a miss gives no reason, nothing is said if none is ready
+pub ready_or_missed : (M : Type 0) (definitions : List (List Op)) (id : ℕ) (ready : Option (Bor Abbrev)) → IfSome ready (λ one. slice_get definitions (id - 4) ≡ Some one.now) → IsDefinition {M = M} (λ miss fault. ⊥) definitions id (option_copied ready)
+ready_or_missed M definitions id None is = λ miss fault means. absurd means
+ready_or_missed M definitions id (Some one) is = is
+
+-- what was found if each is found
+pub found_is : {M : Type 0} (faults : M → Fault → Type 0) (definitions : List (List Op)) (id : ℕ) (found : Option (List Op)) → found ≡ slice_get definitions (id - 4) → IsDefinition faults definitions id found
+found_is faults definitions id None is = λ miss fault means. sym is
+found_is faults definitions id (Some ops) is = sym is
 
 -- what is said of a result for each fault that it means
 pub by_fault : {A : Type 0} (P : Result A Fault → Type 0) (result : Result A Fault) → Answers (λ (miss fault : Fault). fault ≡ miss) P result → P result

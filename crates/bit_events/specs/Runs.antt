@@ -1,5 +1,5 @@
 -- Gathering what is buffered, before a reader takes it.
-use Rattle.std.specs.Prelude.{◌≡◌, ℕ, ◌+◌, ◌-◌, ◌≤◌, List, ◌∷◌, ◌++◌, Bool, Option, Some, None, length, vec_len}
+use Rattle.std.specs.Prelude.{◌≡◌, ℕ, ◌+◌, ◌-◌, ◌≤◌, List, ◌∷◌, ◌++◌, Bool, Option, Some, None, length, slice_get, vec_len}
 use Rattle.bit_grammar.specs.Grammar.{Grammar}
 use Rattle.bit_grammar.specs.declared.op.Op.{Op}
 use Rattle.bit_grammar.specs.Blocks.{Limits, Handed, entry}
@@ -7,6 +7,7 @@ use Rattle.bit_grammar.specs.Machine as machine
 use Rattle.bit_grammar.specs.Machine.{Event, step_of}
 use Rattle.bit_fields.specs.Buffered.{BufferedBits, Reads, Sees, reader_further, reader_at}
 use Rattle.bit_fields.specs.Reader.{Reader, TellsBytes, Took}
+use Rattle.bit_fields.specs.declared.fault.Fault.{Fault}
 use Rattle.bit_events.specs.declared.frame.Frame.{Frame}
 use Rattle.bit_events.specs.declared.machine.Machine.{Machine}
 use Rattle.bit_events.specs.declared.machine.Step.{Step}
@@ -18,6 +19,13 @@ use Rattle.bit_events.specs.MachineView.{bit_after, machine_shown, record_of, st
 -- the values read come after the earlier ones
 abbrev pub AddsBehind : (List ℕ → Type 0) → (before after : List ℕ) → Type 0
 AddsBehind Reads before after = (list : List ℕ) × (after ≡ before ++ list) × Reads list
+
+-- What a look-up of an id's definition found is the one in force. If it found none, there is none, unless a miss gives no reason.
+abbrev pub IsDefinition : {M : Type 0} → (faults : M → Fault → Type 0) → List (List Op) → (id : ℕ)
+    → Option (List Op) → Type 0
+IsDefinition faults definitions id (Some ops) = slice_get definitions (id - 4) ≡ Some ops
+IsDefinition {M} faults definitions id None = (miss : M) (fault : Fault) → faults miss fault
+    → slice_get definitions (id - 4) ≡ None
 
 -- A record with this id, which began at `first`, is read up to a bit, with these definitions in force and at most `room` values.
 abbrev pub ReadsTo : (definitions : List (List Op)) → (room id first : ℕ) → BufferedBits → (code : ℕ)

@@ -205,11 +205,7 @@ fn entry_in<S: Source, V: ValueTaker>(
         (AddsWithin (entry room first id definitions.now.all) room reader.old result reader.new) }
     ensures keeps { Keeps (TookWithFirst V.took) values.old values.new }
 {
-    let ready = if id == 3 {
-        None
-    } else {
-        definitions.get((id - 4) as usize)
-    };
+    let ready = definitions.get(id.saturating_sub(4) as usize);
     if id == 3 || ready.is_some() {
         return read_entry::<V, _, _>(reader, ready, room, id, first, values);
     }

@@ -41,11 +41,7 @@ pub(crate) fn buffered_record<V: ValueTaker>(
     ensures took { TookSome V.took values.new }
 {
     let mut buffered = buffered;
-    let abbrev = if id == 3 {
-        None
-    } else {
-        Some(definitions.get((id - 4) as usize)?)
-    };
+    let abbrev = definitions.get(id.saturating_sub(4) as usize);
     match read_entry::<(), Buffered<'_>, V>(&mut buffered, abbrev, room, id, first, values) {
         Ok(code) => Some((code, buffered.position())),
         Err(_) => None,
@@ -85,11 +81,7 @@ pub(crate) fn buffered_item<U, V: ValueTaker>(
 {
     let first = buffered.position();
     let id = record_id(buffered, frame)?;
-    let abbrev = if id == 3 {
-        None
-    } else {
-        Some(frame.definitions.get((id - 4) as usize)?)
-    };
+    let abbrev = frame.definitions.get(id.saturating_sub(4) as usize);
     match read_entry::<U, Buffered<'_>, V>(buffered, abbrev, room, id, first, values) {
         Ok(code) => Some((id, code)),
         Err(_) => None,
@@ -103,13 +95,14 @@ pub(crate) struct GatheredRun {
     is_over: bool,
 }
 
-/// Whether a record of this definition may be passed over, or one without a definition.
+/// Whether a record with this id, of this definition, may be passed over.
 #[inline(always)]
-fn may_pass(abbrev: Option<&Abbrev>) -> bool {
-    match abbrev {
-        Some(abbrev) => abbrev.layout() != Layout::Odd,
-        None => true,
-    }
+fn may_pass(id: u32, abbrev: Option<&Abbrev>) -> bool {
+    id == 3
+        || match abbrev {
+            Some(abbrev) => abbrev.layout() != Layout::Odd,
+            None => false,
+        }
 }
 
 /// Gathers buffered records one by one, until one comes that may be passed over. The first is read in any case.
@@ -147,20 +140,9 @@ pub(crate) fn gather_odd<G: Gatherer>(
                 is_over: true,
             });
         };
-        let abbrev = if id == 3 {
-            None
-        } else {
-            let Some(abbrev) = definitions.get((id - 4) as usize) else {
-                *used = spent;
-                return Ok(GatheredRun {
-                    after: first,
-                    is_over: true,
-                });
-            };
-            Some(abbrev)
-        };
+        let abbrev = definitions.get(id.saturating_sub(4) as usize);
         let passes = passes && (gatherer.passes() || gatherer.takes_few());
-        if passes && may_pass(abbrev) {
+        if passes && may_pass(id, abbrev) {
             *used = spent;
             return Ok(GatheredRun {
                 after: first,

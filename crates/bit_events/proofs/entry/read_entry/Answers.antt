@@ -29,7 +29,7 @@ returns-in_err-judge-clause-adds g c = λ definitions known.
       before,
       t,
       fails_so (entry c.args.room c.args.first c.args.id definitions) c.args.room (g.B.Bits.as_reader c.args.bits.now) fault (g.B.Bits.as_reader c.judge.new.self) before
-          (no_entry c.args.room c.args.first c.args.id definitions (g.B.Bits.as_reader c.args.bits.now) fault (g.B.Bits.as_reader c.judge.new.self) c.if-id-eq3.false (sym (known c.if-id-eq3.false) ∙ ap option_copied c.in_default.is) (c.in_err-judge.ensures.takes fault stands)),
+          (no_entry c.args.room c.args.first c.args.id definitions (g.B.Bits.as_reader c.args.bits.now) fault (g.B.Bits.as_reader c.judge.new.self) c.if-id-eq3.false ((rw c.in_default.is at (known c.if-id-eq3.false)) _ fault stands) (c.in_err-judge.ensures.takes fault stands)),
     ))
 
 pub returns-in_err-judge-2-clause-adds : goal.returns-in_err-judge-2-clause-adds
@@ -40,7 +40,7 @@ returns-in_err-judge-2-clause-adds g c = λ definitions known.
       before,
       t,
       fails_so (entry c.args.room c.args.first c.args.id definitions) c.args.room (g.B.Bits.as_reader c.args.bits.now) fault (g.B.Bits.as_reader c.judge-2.new.self) before
-          (shapeless_entry c.args.room c.args.first c.args.id definitions c.in-Some.abbrev.now (g.B.Bits.as_reader c.args.bits.now) fault (g.B.Bits.as_reader c.judge-2.new.self) c.if-id-eq3.false (sym (known c.if-id-eq3.false) ∙ ap option_copied c.in-Some.is) (judged fault stands)),
+          (shapeless_entry c.args.room c.args.first c.args.id definitions c.in-Some.abbrev.now (g.B.Bits.as_reader c.args.bits.now) fault (g.B.Bits.as_reader c.judge-2.new.self) c.if-id-eq3.false (rw c.in-Some.is at (known c.if-id-eq3.false)) (judged fault stands)),
     ))
 
 pub returns-clause-adds : goal.returns-clause-adds
@@ -54,5 +54,5 @@ returns-clause-adds g c = λ definitions known.
     let new = c.read_record.new.values in
     let shape = sym c.is_usable.ensures ∙ c.in_ok-judge-2.ensures.holds in
     answers_so g.B.Bits.faults (λ (r : Result ℕ Fault). Gains took old new (AddsWithin (abbreviated c.args.first room ops) room a r b)) (λ (r : Result ℕ Fault). Gains took old new (AddsWithin (entry room c.args.first c.args.id definitions) room a r b)) c.read_record.result
-    (added_as took old new (abbreviated c.args.first room ops) (entry room c.args.first c.args.id definitions) room a b (λ s takes. short_entry room c.args.first c.args.id definitions ops a s b c.if-id-eq3.false (sym (known c.if-id-eq3.false) ∙ ap option_copied c.in-Some.is) shape takes))
+    (added_as took old new (abbreviated c.args.first room ops) (entry room c.args.first c.args.id definitions) room a b (λ s takes. short_entry room c.args.first c.args.id definitions ops a s b c.if-id-eq3.false (rw c.in-Some.is at (known c.if-id-eq3.false)) shape takes))
     (rw c.in_ok-judge-2.ensures.same at c.read_record.ensures.adds)

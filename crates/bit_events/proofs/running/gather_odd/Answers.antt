@@ -1,4 +1,4 @@
-use Rattle.std.proofs.Common.{◌≡◌, ◌≢◌, ℕ, ◌+◌, ◌-◌, List, [], Some, refl, sym, ap, ◌∙◌, subst, arith, length, slice_get}
+use Rattle.std.proofs.Common.{◌≡◌, ◌≢◌, ℕ, ◌+◌, ◌-◌, List, [], Some, IfSome, refl, sym, ap, ◌∙◌, subst, arith, length, slice_get}
 use Rattle.std.specs.Option.{option_copied}
 use Rattle.std.proofs.lemmas.Result.{err_from_is_err_and}
 use Rattle.bit_grammar.specs.Terms.{CodeAndValues}
@@ -8,8 +8,9 @@ use Rattle.bit_fields.proofs.BufferedReads.{reads_forward, took_reads}
 use Rattle.bit_events.specs.FrameView.{frame_shown, info_shown}
 use Rattle.bit_events.specs.Gathering.{Gathers}
 use Rattle.bit_events.specs.MachineView.{record_of}
+use Rattle.bit_events.specs.Runs.{IsDefinition}
+use Rattle.bit_events.proofs.Framing.{ready_or_missed}
 use Rattle.bit_events.proofs.Runs.{added_behind, gathers_none, gathers_more, passed_forward, record_seen, stop_later, stop_record}
-use Rattle.bit_events.proofs.running.gather_odd.Goals.{then-id-eq3, else-id-eq3+in-Some-get}
 use Rattle.bit_events.proofs.running.gather_odd.Goals as goal
 
 pub loop-is_first-init : goal.loop-is_first-init
@@ -24,9 +25,6 @@ loop-is_first-init g c = record {
 pub returns-in_default-clause-took : goal.returns-in_default-clause-took
 returns-in_default-clause-took g c = (let was = c.loop-is_first.invariant.took in ([], c.truncate.ensures [] was.0 was.1 refl))
 
-pub returns-in_default-get-clause-took : goal.returns-in_default-get-clause-took
-returns-in_default-get-clause-took g c = (let was = c.loop-is_first.invariant.took in ([], c.truncate.ensures [] was.0 was.1 refl))
-
 pub returns-then-may_pass-clause-took : goal.returns-then-may_pass-clause-took
 returns-then-may_pass-clause-took g c = (let was = c.loop-is_first.invariant.took in ([], c.truncate.ensures [] was.0 was.1 refl))
 
@@ -38,10 +36,8 @@ overflow_add-spent g c =
     let l = c.loop-is_first in
     let f = c.args.frame.now in
     let b = c.record_id.new.buffered in
-    let known : c.in-Some.id ≢ 3 → option_copied c.if-id-eq3.abbrev ≡ slice_get c.all-definitions.result (c.in-Some.id - 4) = λ other. elim c.if-id-eq3.branch [
-      | then-id-eq3 w ↦ absurd (other w.if-id-eq3.true)
-      | else-id-eq3+in-Some-get w ↦ rw w.abbrev-is (sym w.in-Some-get.ensures)
-    ] in
+    let is : IfSome c.get-abbrev.result (λ one. slice_get c.all-definitions.result (c.in-Some.id - 4) ≡ Some one.now) = rw c.saturating_sub.ensures at c.get-abbrev.ensures in
+    let known : c.in-Some.id ≢ 3 → IsDefinition _ c.all-definitions.result c.in-Some.id (option_copied c.get-abbrev.result) = λ other. ready_or_missed _ c.all-definitions.result c.in-Some.id c.get-abbrev.result is in
     let added = rw (c.all-definitions.ensures, l.invariant.first) at (c.in-Ok.ensures.adds c.all-definitions.result known [] (c.truncate.ensures [] l.invariant.took.0 l.invariant.took.1 refl)) in
     let read = added_behind (entry l.room l.buffered.position c.in-Some.id f.definitions.all) l.room (reader_at b) c.in-Ok.code (reader_at c.read_entry.new.bits) [] added.0 added.2 in
     let taken = subst (g.G.Values.ValueTaker.took c.read_entry.new.values) read.1 added.1 in
@@ -49,10 +45,8 @@ overflow_add-spent g c =
 
 pub returns-in_err-record-clause-took : goal.returns-in_err-record-clause-took
 returns-in_err-record-clause-took g c =
-    let known : c.in-Some.id ≢ 3 → option_copied c.if-id-eq3.abbrev ≡ slice_get c.all-definitions.result (c.in-Some.id - 4) = λ other. elim c.if-id-eq3.branch [
-      | then-id-eq3 w ↦ absurd (other w.if-id-eq3.true)
-      | else-id-eq3+in-Some-get w ↦ rw w.abbrev-is (sym w.in-Some-get.ensures)
-    ] in
+    let is : IfSome c.get-abbrev.result (λ one. slice_get c.all-definitions.result (c.in-Some.id - 4) ≡ Some one.now) = rw c.saturating_sub.ensures at c.get-abbrev.ensures in
+    let known : c.in-Some.id ≢ 3 → IsDefinition _ c.all-definitions.result c.in-Some.id (option_copied c.get-abbrev.result) = λ other. ready_or_missed _ c.all-definitions.result c.in-Some.id c.get-abbrev.result is in
     let added = c.in-Ok.ensures.adds c.all-definitions.result known [] (c.truncate.ensures [] c.loop-is_first.invariant.took.0 c.loop-is_first.invariant.took.1 refl) in
     c.in_err-record.ensures.took (added.0, added.1)
 
@@ -62,10 +56,8 @@ loop-is_first-smaller g c =
     let f = c.args.frame.now in
     let b = c.record_id.new.buffered in
     let d = c.read_entry.new.bits in
-    let known : c.in-Some.id ≢ 3 → option_copied c.if-id-eq3.abbrev ≡ slice_get c.all-definitions.result (c.in-Some.id - 4) = λ other. elim c.if-id-eq3.branch [
-      | then-id-eq3 w ↦ absurd (other w.if-id-eq3.true)
-      | else-id-eq3+in-Some-get w ↦ rw w.abbrev-is (sym w.in-Some-get.ensures)
-    ] in
+    let is : IfSome c.get-abbrev.result (λ one. slice_get c.all-definitions.result (c.in-Some.id - 4) ≡ Some one.now) = rw c.saturating_sub.ensures at c.get-abbrev.ensures in
+    let known : c.in-Some.id ≢ 3 → IsDefinition _ c.all-definitions.result c.in-Some.id (option_copied c.get-abbrev.result) = λ other. ready_or_missed _ c.all-definitions.result c.in-Some.id c.get-abbrev.result is in
     let added = rw (c.all-definitions.ensures, l.invariant.first) at (c.in-Ok.ensures.adds c.all-definitions.result known [] (c.truncate.ensures [] l.invariant.took.0 l.invariant.took.1 refl)) in
     let read = added_behind (entry l.room l.buffered.position c.in-Some.id f.definitions.all) l.room (reader_at b) c.in-Ok.code (reader_at d) [] added.0 added.2 in
     let value : CodeAndValues = record { code = c.in-Ok.code; values = read.0 } in
@@ -83,10 +75,8 @@ loop-is_first-preserved g c =
     let code = c.in-Ok.code in
     let h = l.gatherer in
     let rule = entry l.room l.buffered.position id f.definitions.all in
-    let known : c.in-Some.id ≢ 3 → option_copied c.if-id-eq3.abbrev ≡ slice_get c.all-definitions.result (c.in-Some.id - 4) = λ other. elim c.if-id-eq3.branch [
-      | then-id-eq3 w ↦ absurd (other w.if-id-eq3.true)
-      | else-id-eq3+in-Some-get w ↦ rw w.abbrev-is (sym w.in-Some-get.ensures)
-    ] in
+    let is : IfSome c.get-abbrev.result (λ one. slice_get c.all-definitions.result (c.in-Some.id - 4) ≡ Some one.now) = rw c.saturating_sub.ensures at c.get-abbrev.ensures in
+    let known : c.in-Some.id ≢ 3 → IsDefinition _ c.all-definitions.result c.in-Some.id (option_copied c.get-abbrev.result) = λ other. ready_or_missed _ c.all-definitions.result c.in-Some.id c.get-abbrev.result is in
     let added = rw (c.all-definitions.ensures, l.invariant.first) at (c.in-Ok.ensures.adds c.all-definitions.result known [] (c.truncate.ensures [] l.invariant.took.0 l.invariant.took.1 refl)) in
     let read = added_behind rule l.room (reader_at b) code (reader_at d) [] added.0 added.2 in
     let list : List ℕ = read.0 in
@@ -116,10 +106,8 @@ returns-in_err-record-clause-stops g c =
     let id = c.in-Some.id in
     let code = c.in-Ok.code in
     let h = l.gatherer in
-    let known : c.in-Some.id ≢ 3 → option_copied c.if-id-eq3.abbrev ≡ slice_get c.all-definitions.result (c.in-Some.id - 4) = λ other. elim c.if-id-eq3.branch [
-      | then-id-eq3 w ↦ absurd (other w.if-id-eq3.true)
-      | else-id-eq3+in-Some-get w ↦ rw w.abbrev-is (sym w.in-Some-get.ensures)
-    ] in
+    let is : IfSome c.get-abbrev.result (λ one. slice_get c.all-definitions.result (c.in-Some.id - 4) ≡ Some one.now) = rw c.saturating_sub.ensures at c.get-abbrev.ensures in
+    let known : c.in-Some.id ≢ 3 → IsDefinition _ c.all-definitions.result c.in-Some.id (option_copied c.get-abbrev.result) = λ other. ready_or_missed _ c.all-definitions.result c.in-Some.id c.get-abbrev.result is in
     let added = rw (c.all-definitions.ensures, l.invariant.first) at (c.in-Ok.ensures.adds c.all-definitions.result known [] (c.truncate.ensures [] l.invariant.took.0 l.invariant.took.1 refl)) in
     let read = added_behind (entry l.room l.buffered.position id f.definitions.all) l.room (reader_at b) code (reader_at d) [] added.0 added.2 in
     let list : List ℕ = read.0 in
