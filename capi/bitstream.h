@@ -18,7 +18,7 @@
    have as many values as the limit permits in a few bytes. The comment of each call gives how often it reads, and the memory that
    it takes beside the caller's: n for the bytes of an input; D for the definitions in force, at most 10 bytes for each byte of
    input that defines, and 16 for each operand of the longest; V for the values of one record, at most 3 bytes each, and 8 more
-   from 65,535 on; N for the names of what is left out, 80 bytes each; and a few kilobytes, at most 46 for each open
+   from 65,535 on; N for the names of what is left out, 80 bytes each; and a few kilobytes, at most 50 for each open
    block that makes definitions. A call frees its memory when it ends, except what a handle holds.
 
    The library needs an x86-64 processor of level v2, with SSE4.2 and POPCNT; on an older one a call can end the program by SIGILL.
