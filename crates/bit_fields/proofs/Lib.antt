@@ -36,6 +36,7 @@ pub mod PlainRecords
 pub mod PlainPlaces
 pub mod PlacedNumbers
 pub mod LastChunks
+pub mod ByteTables
 pub mod Pens
 pub mod WrittenSixes
 pub mod SixRows

@@ -12,11 +12,11 @@ use Rattle.bit_grammar.specs.Bits.{bits_of, bits_of_bytes}
 use Rattle.bit_grammar.specs.FormatFields.{shortest}
 use Rattle.bit_grammar.specs.Normal.{values_bits}
 use Rattle.bit_grammar.proofs.Bits.Numbers.{length-bits_of}
-use Rattle.bit_fields.specs.Pens.{HoldBits, Puts, LendsEnd}
+use Rattle.bit_fields.specs.Pens.{HoldBits, Puts}
 use Rattle.bit_fields.specs.Texts.{bits_of_chunks, AreFull, text_of, IsText, with_word}
 use Rattle.bit_fields.specs.Writer.{Writer, Wrote, Writes}
 use Rattle.bit_fields.specs.declared.fault.Fault.{Fault}
-use Rattle.bit_fields.proofs.BitLaws.{bits_of_bytes-append, length-bits_of_bytes, bits_of_bytes-take, bytes_dropped, drop_more, le_bytes_bits_32, take-bits_of, kept_is, below_mask}
+use Rattle.bit_fields.proofs.BitLaws.{bits_of_bytes-append, length-bits_of_bytes, bits_of_bytes-take, bytes_dropped, drop_more, le_bytes_bits_32, take-bits_of, kept_is}
 use Rattle.bit_fields.proofs.WriterLaws.{wrote_nothing, wrote_then, not_written}
 
 -- ---- chunks

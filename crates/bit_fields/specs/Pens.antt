@@ -1,5 +1,5 @@
 -- Bits that are stored into bytes at a position.
-use Rattle.std.specs.Prelude.{◌≡◌, ℕ, ◌+◌, ◌-◌, ◌*◌, ◌%◌, ◌^◌, ◌<◌, ◌≤◌, Bool, false, List, ◌++◌, length, take, replicate, Option, Some, None}
+use Rattle.std.specs.Prelude.{◌≡◌, ℕ, ◌+◌, ◌-◌, ◌*◌, ◌%◌, ◌^◌, ◌<◌, ◌≤◌, Bool, false, List, ◌++◌, length, replicate}
 use Rattle.bit_grammar.specs.Bits.{bits_of, bits_of_bytes}
 use Rattle.bit_grammar.specs.Grammar.{repeat}
 use Rattle.bit_grammar.specs.Fields.{vbr}
@@ -21,6 +21,10 @@ pub record Puts (more : List Bool) (at : ℕ) (old : List ℕ) (after : ℕ) (ne
   pub same : length new ≡ length old
   pub ends : after ≡ at + length more
   pub holds : (bits : List Bool) → length bits ≡ at → HoldBits old bits → HoldBits new (bits ++ more)
+
+-- One or two chunks of six bits, as a number and how many bits they have.
+abbrev pub AreShort : ℕ × ℕ → Type 0
+AreShort chunks = (chunks.0 < 2 ^ chunks.1) × (chunks.1 ≤ 12)
 
 -- Whatever bits the bytes held before a position are still there.
 pub record KeepsFront (at : ℕ) (old new : List ℕ) : Type 0 where

@@ -7,7 +7,7 @@ ghost use Rattle.std.specs.Prelude.{ℕ, ◌≡◌, ◌+◌, ◌*◌, ◌/◌, �
 ghost use Rattle.bit_grammar.specs.Bits.{bits_of, bits_of_bytes};
 ghost use Rattle.bit_grammar.specs.FormatFields.{shortest};
 ghost use Rattle.bit_grammar.specs.Normal.{entry_text, values_bits};
-ghost use Rattle.bit_fields.specs.Pens.{Puts, TakesBack};
+ghost use Rattle.bit_fields.specs.Pens.{AreShort, Puts, TakesBack};
 
 /// Stores a number of n bits, at most 56, and returns the position after it.
 #[inline(always)]
@@ -134,6 +134,30 @@ pub fn put_two(bytes: &mut [u8], at: u64, first: u64, second: u64) -> u64
     put(bytes, at, bits + more, one + (two << bits))
 }
 
+/// Stores the chunks of four numbers, which have these bits.
+#[inline(always)]
+fn put_joined(
+    bytes: &mut [u8],
+    at: u64,
+    first: (u64, u64),
+    second: (u64, u64),
+    third: (u64, u64),
+    fourth: (u64, u64),
+) -> u64
+    requires first { AreShort first }
+    requires second { AreShort second }
+    requires third { AreShort third }
+    requires fourth { AreShort fourth }
+    requires room { at + 112 ≤ 8 * length bytes.old }
+    requires counted { 8 * length bytes.old < 2 ^ 64 }
+    ensures { Puts ((bits_of first.1 first.0 ++ bits_of second.1 second.0)
+        ++ (bits_of third.1 third.0 ++ bits_of fourth.1 fourth.0)) at bytes.old result bytes.new }
+{
+    let (one, half) = (first.0 + (second.0 << first.1), first.1 + second.1);
+    let (two, more) = (third.0 + (fourth.0 << third.1), third.1 + fourth.1);
+    put(bytes, at, half + more, one + (two << half))
+}
+
 /// Stores four numbers of ten bits in chunks of six bits, each in as few as possible.
 #[inline(always)]
 fn put_four(bytes: &mut [u8], at: u64, first: u64, second: u64, third: u64, fourth: u64) -> u64
@@ -146,13 +170,9 @@ fn put_four(bytes: &mut [u8], at: u64, first: u64, second: u64, third: u64, four
     ensures { Puts ((shortest 6 first ++ shortest 6 second) ++ (shortest 6 third ++ shortest 6 fourth))
         at bytes.old result bytes.new }
 {
-    let (a, i) = short_chunks(first);
-    let (b, j) = short_chunks(second);
-    let (c, k) = short_chunks(third);
-    let (d, l) = short_chunks(fourth);
-    let (one, half) = (a + (b << i), i + j);
-    let (two, more) = (c + (d << k), k + l);
-    put(bytes, at, half + more, one + (two << half))
+    let (a, b) = (short_chunks(first), short_chunks(second));
+    let (c, d) = (short_chunks(third), short_chunks(fourth));
+    put_joined(bytes, at, a, b, c, d)
 }
 
 /// Stores numbers in chunks of six bits, each in as few as possible.
@@ -179,6 +199,48 @@ pub(crate) fn put_numbers(bytes: &mut [u8], at: u64, values: &[u64]) -> u64
     pen
 }
 
+/// The chunks of six bits of each number of eight bits.
+static BYTE_CHUNKS: [u16; 256] = [
+    0, 1, 2, 3, 4, 5, 6, 7, 8, 9, 10, 11, 12, 13, 14, 15, 16, 17, 18, 19, 20, 21, 22, 23, 24, 25,
+    26, 27, 28, 29, 30, 31, 96, 97, 98, 99, 100, 101, 102, 103, 104, 105, 106, 107, 108, 109, 110,
+    111, 112, 113, 114, 115, 116, 117, 118, 119, 120, 121, 122, 123, 124, 125, 126, 127, 160, 161,
+    162, 163, 164, 165, 166, 167, 168, 169, 170, 171, 172, 173, 174, 175, 176, 177, 178, 179, 180,
+    181, 182, 183, 184, 185, 186, 187, 188, 189, 190, 191, 224, 225, 226, 227, 228, 229, 230, 231,
+    232, 233, 234, 235, 236, 237, 238, 239, 240, 241, 242, 243, 244, 245, 246, 247, 248, 249, 250,
+    251, 252, 253, 254, 255, 288, 289, 290, 291, 292, 293, 294, 295, 296, 297, 298, 299, 300, 301,
+    302, 303, 304, 305, 306, 307, 308, 309, 310, 311, 312, 313, 314, 315, 316, 317, 318, 319, 352,
+    353, 354, 355, 356, 357, 358, 359, 360, 361, 362, 363, 364, 365, 366, 367, 368, 369, 370, 371,
+    372, 373, 374, 375, 376, 377, 378, 379, 380, 381, 382, 383, 416, 417, 418, 419, 420, 421, 422,
+    423, 424, 425, 426, 427, 428, 429, 430, 431, 432, 433, 434, 435, 436, 437, 438, 439, 440, 441,
+    442, 443, 444, 445, 446, 447, 480, 481, 482, 483, 484, 485, 486, 487, 488, 489, 490, 491, 492,
+    493, 494, 495, 496, 497, 498, 499, 500, 501, 502, 503, 504, 505, 506, 507, 508, 509, 510, 511,
+];
+
+/// How many bits these chunks have.
+static BYTE_BITS: [u8; 256] = [
+    6, 6, 6, 6, 6, 6, 6, 6, 6, 6, 6, 6, 6, 6, 6, 6, 6, 6, 6, 6, 6, 6, 6, 6, 6, 6, 6, 6, 6, 6, 6, 6,
+    12, 12, 12, 12, 12, 12, 12, 12, 12, 12, 12, 12, 12, 12, 12, 12, 12, 12, 12, 12, 12, 12, 12, 12,
+    12, 12, 12, 12, 12, 12, 12, 12, 12, 12, 12, 12, 12, 12, 12, 12, 12, 12, 12, 12, 12, 12, 12, 12,
+    12, 12, 12, 12, 12, 12, 12, 12, 12, 12, 12, 12, 12, 12, 12, 12, 12, 12, 12, 12, 12, 12, 12, 12,
+    12, 12, 12, 12, 12, 12, 12, 12, 12, 12, 12, 12, 12, 12, 12, 12, 12, 12, 12, 12, 12, 12, 12, 12,
+    12, 12, 12, 12, 12, 12, 12, 12, 12, 12, 12, 12, 12, 12, 12, 12, 12, 12, 12, 12, 12, 12, 12, 12,
+    12, 12, 12, 12, 12, 12, 12, 12, 12, 12, 12, 12, 12, 12, 12, 12, 12, 12, 12, 12, 12, 12, 12, 12,
+    12, 12, 12, 12, 12, 12, 12, 12, 12, 12, 12, 12, 12, 12, 12, 12, 12, 12, 12, 12, 12, 12, 12, 12,
+    12, 12, 12, 12, 12, 12, 12, 12, 12, 12, 12, 12, 12, 12, 12, 12, 12, 12, 12, 12, 12, 12, 12, 12,
+    12, 12, 12, 12, 12, 12, 12, 12, 12, 12, 12, 12, 12, 12, 12, 12, 12, 12, 12, 12, 12, 12, 12, 12,
+    12, 12, 12, 12, 12, 12, 12, 12,
+];
+
+/// The chunks of six bits of a number of eight bits, one or two, and how many bits they have.
+#[inline(always)]
+fn byte_chunks(value: u8) -> (u64, u64)
+    ensures spelled { bits_of result.1 result.0 ≡ shortest 6 value }
+    ensures short { AreShort result }
+{
+    let place = usize::from(value);
+    (u64::from(BYTE_CHUNKS[place]), u64::from(BYTE_BITS[place]))
+}
+
 /// Stores numbers of one byte each in chunks of six bits, each in as few as possible.
 pub(crate) fn put_byte_numbers(bytes: &mut [u8], at: u64, values: &[u8]) -> u64
     requires room { at + (12 * length values.now + 142) ≤ 8 * length bytes.old }
@@ -188,9 +250,9 @@ pub(crate) fn put_byte_numbers(bytes: &mut [u8], at: u64, values: &[u8]) -> u64
     let mut pen = at;
     let mut rest = values;
     while let [a, b, c, d, others @ ..] = rest {
-        let (first, second) = (u64::from(*a), u64::from(*b));
-        let (third, fourth) = (u64::from(*c), u64::from(*d));
-        pen = put_four(bytes, pen, first, second, third, fourth);
+        let (first, second) = (byte_chunks(*a), byte_chunks(*b));
+        let (third, fourth) = (byte_chunks(*c), byte_chunks(*d));
+        pen = put_joined(bytes, pen, first, second, third, fourth);
         rest = others;
     }
     for value in rest {

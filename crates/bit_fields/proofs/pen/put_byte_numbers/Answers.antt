@@ -1,4 +1,4 @@
-use Rattle.std.proofs.Common.{arith}
+use Rattle.std.proofs.Common.{get_or, refl, arith}
 use Rattle.bit_grammar.specs.Normal.{values_bits}
 use Rattle.bit_fields.proofs.Pens.{ten_range, filling_starts, later_bytes, numbers_next, numbers_one, numbers_ended}
 use Rattle.bit_fields.proofs.pen.put_byte_numbers.Goals as goal
@@ -13,11 +13,12 @@ pub loop-rest-preserved : goal.loop-rest-preserved
 loop-rest-preserved c =
     let rest = c.loop-rest.rest.now in
     let small = c.loop-rest.invariant.small in
+    let puts = rw (c.byte_chunks-first.ensures.spelled, c.byte_chunks-second.ensures.spelled, c.byte_chunks-third.ensures.spelled, c.byte_chunks-fourth.ensures.spelled) at c.put_joined-pen.ensures in
     record {
-      filling = numbers_next 12 142 c.args.at c.args.bytes.now c.loop-rest.pen c.loop-rest.bytes c.put_four-pen.result c.put_four-pen.new.bytes c.args.values.now rest c.from-first.result c.from-second.result c.from-third.result c.from-fourth.result
-          c.in-len4-up.len_at_least c.from-first.ensures c.from-second.ensures c.from-third.ensures c.from-fourth.ensures
-          (ten_range _ (omega (arith, small 0, c.from-first.ensures))) (ten_range _ (omega (arith, small 1, c.from-second.ensures))) (ten_range _ (omega (arith, small 2, c.from-third.ensures))) (ten_range _ (omega (arith, small 3, c.from-fourth.ensures)))
-          c.loop-rest.invariant.filling c.put_four-pen.ensures;
+      filling = numbers_next 12 142 c.args.at c.args.bytes.now c.loop-rest.pen c.loop-rest.bytes c.put_joined-pen.result c.put_joined-pen.new.bytes c.args.values.now rest (get_or rest 0 0) (get_or rest 1 0) (get_or rest 2 0) (get_or rest 3 0)
+          c.in-len4-up.len_at_least refl refl refl refl
+          (ten_range _ (omega (arith, small 0))) (ten_range _ (omega (arith, small 1))) (ten_range _ (omega (arith, small 2))) (ten_range _ (omega (arith, small 3)))
+          c.loop-rest.invariant.filling puts;
       small = later_bytes rest c.in-len4-up.len_at_least small;
     }
 

@@ -1,4 +1,4 @@
-use Rattle.std.proofs.Common.{Bool, List, ◌+◌, ◌*◌, ◌≤◌, ◌++◌, length, ap, ◌∙◌, arith, append_assoc, length-append}
+use Rattle.std.proofs.Common.{Bool, List, ◌++◌, length, ap, ◌∙◌, arith, append_assoc, length-append}
 use Rattle.bit_grammar.specs.Bits.{bits_of}
 use Rattle.bit_grammar.specs.FormatFields.{shortest}
 use Rattle.bit_grammar.specs.Normal.{entry_text, values_bits}

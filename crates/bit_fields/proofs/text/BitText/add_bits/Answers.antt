@@ -1,4 +1,4 @@
-use Rattle.std.proofs.Common.{◌≡◌, ◌+◌, ◌*◌, ◌/◌, ◌<◌, Bool, List, ◌++◌, length, take, OnOk, ap, sym, subst, ◌∙◌, refl, arith, length-append, bit_and}
+use Rattle.std.proofs.Common.{◌≡◌, ◌/◌, Bool, List, ◌++◌, length, take, OnOk, ap, sym, subst, ◌∙◌, refl, arith, length-append, bit_and}
 use Rattle.std.proofs.lemmas.List.{length-take-le}
 use Rattle.bit_grammar.specs.Bits.{bits_of_bytes}
 use Rattle.bit_fields.proofs.BitLaws.{length-bits_of_bytes}

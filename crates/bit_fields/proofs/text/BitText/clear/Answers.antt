@@ -1,4 +1,4 @@
-use Rattle.std.proofs.Common.{◌≡◌, ◌<◌, List, ℕ, [], length, ap, sym, subst, arith}
+use Rattle.std.proofs.Common.{List, ℕ, length, ap, sym, subst, arith}
 use Rattle.std.specs.Global.{Vec}
 use Rattle.bit_fields.specs.Texts.{IsText, text_of}
 use Rattle.bit_fields.proofs.Texts.{cleared_text}

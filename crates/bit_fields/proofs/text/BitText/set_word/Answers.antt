@@ -1,4 +1,4 @@
-use Rattle.std.proofs.Common.{◌≡◌, ◌+◌, ◌*◌, ◌/◌, ◌<◌, ◌≤◌, length, refl, ap, ◌∙◌, arith}
+use Rattle.std.proofs.Common.{◌+◌, ◌*◌, ◌/◌, ◌<◌, ◌≤◌, length, refl, ap, ◌∙◌, arith}
 use Rattle.std.specs.Prelude.{vec_len}
 use Rattle.bit_fields.specs.Texts.{text_of, with_word}
 use Rattle.bit_fields.proofs.Texts.{full-at, beyond, within_chunk, text-length, set_in_chunk, set_in_last}

@@ -1,4 +1,4 @@
-use Rattle.std.proofs.Common.{◌<◌, ◌+◌, ◌*◌, ◌^◌, ◌++◌, length, arith}
+use Rattle.std.proofs.Common.{◌+◌, ◌*◌, length, arith}
 use Rattle.bit_grammar.specs.Normal.{values_bits}
 use Rattle.bit_fields.proofs.Texts.{stored_text, stored_fits}
 use Rattle.bit_fields.proofs.text.BitText.some_byte_numbers.Goals as goal

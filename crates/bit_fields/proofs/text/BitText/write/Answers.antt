@@ -1,4 +1,4 @@
-use Rattle.std.proofs.Common.{◌≡◌, ◌%◌, ℕ, Bool, List, length, take, Err, ap, subst, arith, length-append}
+use Rattle.std.proofs.Common.{ℕ, Bool, List, length, take, Err, ap, subst, arith, length-append}
 use Rattle.std.specs.Global.{Vec}
 use Rattle.std.proofs.lemmas.Result.{err_from_is_err_and}
 use Rattle.bit_grammar.specs.Bits.{bits_of_bytes}

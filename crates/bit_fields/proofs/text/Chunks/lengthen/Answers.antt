@@ -1,4 +1,4 @@
-use Rattle.std.proofs.Common.{◌≡◌, ◌<◌, ◌≤◌, ◌-◌, length, ap, arith, length-append}
+use Rattle.std.proofs.Common.{◌≡◌, ◌≤◌, ◌-◌, length, ap, arith, length-append}
 use Rattle.std.proofs.Common.{replicate, ℕ}
 use Rattle.std.proofs.lemmas.List.{length-replicate}
 use Rattle.bit_fields.proofs.Texts.{longer_text, resized}
