@@ -149,6 +149,17 @@ passes_on passes at d a b len skip next first within here skip_is h next_is numb
     let place : b ≡ beyond a (len + pass.skip) = here ∙ ap (λ (k : ℕ). beyond a (len + k)) skip_is in
     rw (one, next_is) (passes_more (take at passes) pass a len first h (subst (λ (x : BufferedBits). HasNumbers pass.chunks.bits pass.count x first) place numbers))
 
+-- the first two of a list of passes
+pub two_passes : (passes : List Pass) (d e : Pass) (a b : BufferedBits) (len first next more : ℕ) → 1 < length passes → b ≡ beyond a (get_or passes 0 d).skip → len ≡ (get_or passes 0 d).skip + first → HasNumbers (get_or passes 0 d).chunks.bits (get_or passes 0 d).count b first
+    → next ≡ len + (get_or passes 1 e).skip + more → HasNumbers (get_or passes 1 e).chunks.bits (get_or passes 1 e).count (beyond a (len + (get_or passes 1 e).skip)) more → HasPasses (take 2 passes) a next
+two_passes passes d e a b len first next more within here is numbers next_is later =
+    let skip : ℕ = (get_or passes 0 d).skip in
+    let place : skip ≡ 0 + skip = omega arith in
+    let one : HasPasses (take 1 passes) a (0 + len) = passes_on passes 0 d a b 0 skip len first (omega (arith, within)) (here ∙ ap (beyond a) place) refl refl is numbers in
+    let begun : 0 + len ≡ len = omega arith in
+    let all : len + ((get_or passes 1 e).skip + more) ≡ next = omega (arith, next_is) in
+    subst (HasPasses (take 2 passes) a) all (passes_on passes 1 e a (beyond a (len + (get_or passes 1 e).skip)) len (get_or passes 1 e).skip ((get_or passes 1 e).skip + more) more within refl refl (subst (HasPasses (take 1 passes) a) begun one) refl later)
+
 -- bits that are left after it
 pub left_on : (a b : BufferedBits) (len skip own next at : ℕ) → b ≡ beyond a (len + skip) → len + 2208 ≤ length a.bits + 312 * at → len + skip ≤ length a.bits → skip ≤ 255 → skip ≡ own → (next ≤ own + 57) ⊎ (next + 2240 ≤ own + length b.bits) → len + next + 2208 ≤ length a.bits + 312 * (at + 1)
 left_on a b len skip own next at here left there few same (inl short) = omega (arith, left, few, short, same)

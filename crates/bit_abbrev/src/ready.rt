@@ -111,7 +111,7 @@ impl ReadyGroup {
         ensures err { OnErr result (self.new ≡ self.old) }
     {
         let plan = if *left > 0 && self.plans.len() == self.ready.len() {
-            Some(Plan::of(abbrev.ops()))
+            Some(Plan::of(&abbrev))
         } else {
             None
         };

@@ -1,6 +1,6 @@
 //! The passes of operands that give one value each.
 
-ghost use Rattle.std.specs.Prelude.{◌≤◌, ◌<◌, List, [], ◌∷◌, ◌++◌, ℕ, IfSome};
+ghost use Rattle.std.specs.Prelude.{◌≡◌, ◌≤◌, true, false, List, [], ◌∷◌, ◌++◌};
 ghost use Rattle.bit_grammar.specs.declared.op.Op.{Op};
 ghost use Rattle.bit_grammar.specs.declared.op.Op.TheVariants.{Vbr};
 ghost use Rattle.bit_grammar.specs.FormatDefinition.{HasLawfulValue};
@@ -30,89 +30,85 @@ impl Passes {
         }
     }
 
-    /// These with more bits to skip, if they fit.
-    fn skip(self, bits: u8) -> Option<Passes>
-        ensures { IfSome result (λ passes. (ops : List Op) (op : Op) → TakesBits op bits
-            → Covers ops self → Covers (ops ++ op ∷ []) passes) }
+    /// Adds bits to skip, if they fit.
+    #[inline(always)]
+    fn skip(&mut self, bits: u8) -> bool
+        ensures adds { result ≡ true → (ops : List Op) (op : Op) → TakesBits op bits
+            → Covers ops self.old → Covers (ops ++ op ∷ []) self.new }
+        ensures same { result ≡ false → self.new ≡ self.old }
     {
-        Some(Passes {
-            pass: self.pass,
-            count: self.count,
-            after: self.after.checked_add(bits)?,
-        })
+        let Some(after) = self.after.checked_add(bits) else {
+            return false;
+        };
+        self.after = after;
+        true
     }
 
-    /// These with a number more in the last pass, if it fits.
-    fn join(self, chunks: ChunkTops) -> Option<Passes>
-        ensures { IfSome result (λ passes. (ops : List Op) → Covers ops self
-            → Covers (ops ++ Vbr chunks.bits ∷ []) passes) }
+    /// Adds a number to the last pass, if it fits.
+    #[inline(always)]
+    fn join(&mut self, width: u8) -> bool
+        ensures adds { result ≡ true → (ops : List Op) → Covers ops self.old
+            → Covers (ops ++ Vbr width ∷ []) self.new }
+        ensures same { result ≡ false → self.new ≡ self.old }
     {
         if self.after > 0 || self.count == 0 {
-            return None;
+            return false;
         }
         let at = self.count as usize - 1;
         let last = self.pass[at];
-        if last.chunks.bits != chunks.bits || last.count == TOGETHER {
-            return None;
+        if last.chunks.bits != u32::from(width) || last.count == TOGETHER {
+            return false;
         }
-        let mut pass = self.pass;
-        pass[at] = Pass {
+        self.pass[at] = Pass {
             skip: last.skip,
             count: last.count + 1,
-            chunks,
+            chunks: last.chunks,
         };
-        Some(Passes {
-            pass,
-            count: self.count,
-            after: 0,
-        })
+        true
     }
 
-    /// These with a pass of one number more, if it fits.
-    fn begin(self, chunks: ChunkTops) -> Option<Passes>
-        ensures { IfSome result (λ passes. (ops : List Op) → Covers ops self
-            → Covers (ops ++ Vbr chunks.bits ∷ []) passes) }
+    /// Adds a pass of one number, if it fits.
+    #[inline(always)]
+    fn begin(&mut self, width: u8) -> bool
+        requires some { 2 ≤ width }
+        requires few { width ≤ 32 }
+        ensures adds { result ≡ true → (ops : List Op) → Covers ops self.old
+            → Covers (ops ++ Vbr width ∷ []) self.new }
+        ensures same { result ≡ false → self.new ≡ self.old }
     {
         let count = self.count as usize;
         if count == MOST || count == 0 && self.after >= 64 {
-            return None;
+            return false;
         }
-        let mut pass = self.pass;
-        pass[count] = Pass {
+        self.pass[count] = Pass {
             skip: self.after,
             count: 1,
-            chunks,
+            chunks: ChunkTops::of(ChunkWidth::of(width)),
         };
-        Some(Passes {
-            pass,
-            count: self.count + 1,
-            after: 0,
-        })
+        self.count += 1;
+        self.after = 0;
+        true
     }
 
-    /// These with a number more, if it fits.
-    fn number(self, chunks: ChunkTops) -> Option<Passes>
-        ensures { IfSome result (λ passes. (ops : List Op) → Covers ops self
-            → Covers (ops ++ Vbr chunks.bits ∷ []) passes) }
-    {
-        match self.join(chunks) {
-            Some(passes) => Some(passes),
-            None => self.begin(chunks),
-        }
-    }
-
-    /// These with an operand more, if it fits.
-    pub(super) fn add(self, op: Op) -> Option<Passes>
+    /// Adds an operand, if it fits.
+    #[inline(always)]
+    pub(super) fn add(&mut self, op: Op) -> bool
         requires { HasLawfulValue op }
-        ensures { IfSome result (λ passes. (ops : List Op) → Covers ops self
-            → Covers (ops ++ op ∷ []) passes) }
+        ensures adds { result ≡ true → (ops : List Op) → Covers ops self.old
+            → Covers (ops ++ op ∷ []) self.new }
+        ensures same { result ≡ false → self.new ≡ self.old }
     {
         match op {
             Op::Literal(_) | Op::Vbr(0) => self.skip(0),
             Op::Fixed(width) => self.skip(width),
             Op::Char6 => self.skip(6),
-            Op::Vbr(width) => self.number(ChunkTops::of(ChunkWidth::of(width))),
-            Op::Blob | Op::Array => None,
+            Op::Vbr(width) => {
+                if self.join(width) {
+                    return true;
+                }
+                self.begin(width)
+            }
+            Op::Blob | Op::Array => false,
         }
     }
 }

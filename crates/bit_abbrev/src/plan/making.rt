@@ -6,103 +6,91 @@ ghost use Rattle.bit_grammar.specs.FormatDefinition.{HasLawfulValue};
 ghost use Rattle.bit_abbrev.specs.declared.plan.Rest.TheVariants.{Odd};
 ghost use Rattle.bit_abbrev.specs.Plans.{Covers, HasRest, IsPlan};
 
-use crate::abbrev::has_shape;
+use crate::abbrev::Abbrev;
 use crate::plan::{Passes, Plan, Rest};
 use bit_fields::{ChunkTops, ChunkWidth};
 use bit_grammar::Op;
 
-/// A plan that passes over nothing.
-fn odd() -> Plan
-    ensures { result.rest ≡ Odd }
+/// Takes the first operands as long as they fit, and returns how many these are.
+fn take_front(passes: &mut Passes, ops: &[Op]) -> usize
+    requires lawful { AllByRecursion HasLawfulValue ops.now }
+    requires none { Covers [] passes.old }
+    ensures within { result ≤ length ops.now }
+    ensures covers { Covers (take result ops.now) passes.new }
 {
-    Plan {
-        rest: Rest::Odd,
-        width: 0,
-        singles: 0,
-        code: 0,
-        chunks: ChunkTops::of(ChunkWidth::of(6)),
-        passes: Passes::new(),
-    }
-}
-
-/// The passes of the first operands, as many as fit, and how many operands these are.
-fn front(ops: &[Op]) -> (Passes, usize)
-    requires { AllByRecursion HasLawfulValue ops.now }
-    ensures within { result.1 ≤ length ops.now }
-    ensures covers { Covers (take result.1 ops.now) result.0 }
-{
-    let mut passes = Passes::new();
     for (count, op) in ops.iter().enumerate() {
-        match passes.add(*op) {
-            Some(more) => passes = more,
-            None => return (passes, count),
+        if !passes.add(*op) {
+            return count;
         }
     }
-    (passes, ops.len())
+    ops.len()
 }
 
 impl Plan {
-    /// This plan with what comes after the single operands.
-    fn with_rest(self, tail: &[Op]) -> Plan
-        requires odd { self.rest ≡ Odd }
+    /// A plan that passes over nothing.
+    pub(crate) fn odd() -> Plan
+        ensures rest { result.rest ≡ Odd }
+        ensures none { Covers [] result.passes }
+    {
+        Plan {
+            rest: Rest::Odd,
+            width: 0,
+            singles: 0,
+            code: 0,
+            chunks: ChunkTops::of(ChunkWidth::of(6)),
+            passes: Passes::new(),
+        }
+    }
+
+    /// Sets what comes after the single operands.
+    fn set_rest(&mut self, tail: &[Op])
+        requires odd { self.old.rest ≡ Odd }
         requires lawful { AllByRecursion HasLawfulValue tail.now }
-        ensures rest { HasRest result result.rest tail.now }
-        ensures code { result.code ≡ self.code }
-        ensures singles { result.singles ≡ self.singles }
-        ensures passes { result.passes ≡ self.passes }
+        ensures rest { HasRest self.new self.new.rest tail.now }
+        ensures code { self.new.code ≡ self.old.code }
+        ensures singles { self.new.singles ≡ self.old.singles }
+        ensures passes { self.new.passes ≡ self.old.passes }
     {
         match tail {
-            [] => Plan {
-                rest: Rest::Nothing,
-                ..self
-            },
-            [Op::Array, Op::Vbr(6)] => Plan {
-                rest: Rest::Sixes,
-                ..self
-            },
-            [Op::Array, Op::Char6] => Plan {
-                rest: Rest::Fields,
-                width: 6,
-                ..self
-            },
-            [Op::Array, Op::Fixed(width)] if *width > 0 => Plan {
-                rest: Rest::Fields,
-                width: *width,
-                ..self
-            },
-            [Op::Array, Op::Vbr(width)] if *width > 1 => Plan {
-                rest: Rest::Numbers,
-                chunks: ChunkTops::of(ChunkWidth::of(*width)),
-                ..self
-            },
-            _ => self,
+            [] => self.rest = Rest::Nothing,
+            [Op::Array, Op::Vbr(6)] => self.rest = Rest::Sixes,
+            [Op::Array, Op::Char6] => {
+                self.rest = Rest::Fields;
+                self.width = 6;
+            }
+            [Op::Array, Op::Fixed(width)] if *width > 0 => {
+                self.rest = Rest::Fields;
+                self.width = *width;
+            }
+            [Op::Array, Op::Vbr(width)] if *width > 1 => {
+                self.rest = Rest::Numbers;
+                self.chunks = ChunkTops::of(ChunkWidth::of(*width));
+            }
+            _ => {}
         }
     }
 
     /// The plan of a definition.
-    pub(crate) fn of(ops: &[Op]) -> Plan
-        requires { AllByRecursion HasLawfulValue ops.now }
-        ensures { IsPlan ops.now result }
+    pub(crate) fn of(abbrev: &Abbrev) -> Plan
+        ensures { IsPlan «abbrev».now result }
     {
-        let [first, others @ ..] = ops else {
-            return odd();
+        let mut plan = Plan::odd();
+        let [first, others @ ..] = abbrev.ops() else {
+            return plan;
         };
-        if !has_shape(ops) {
-            return odd();
-        }
         let Op::Literal(code) = *first else {
-            return odd();
+            return plan;
         };
-        let (passes, count) = front(others);
-        if count > 64 {
-            return odd();
+        if !abbrev.is_usable() {
+            return plan;
         }
-        let plan = Plan {
-            code,
-            singles: count as u32,
-            passes,
-            ..odd()
-        };
-        plan.with_rest(&others[count..])
+        let count = take_front(&mut plan.passes, others);
+        if count > 64 {
+            return plan;
+        }
+        plan.code = code;
+        plan.singles = count as u32;
+        plan.set_rest(&others[count..]);
+        plan
     }
 }

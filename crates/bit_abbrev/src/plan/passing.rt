@@ -1,6 +1,6 @@
 //! Passing over a record.
 
-ghost use Rattle.std.specs.Prelude.{◌≡◌, ◌≢◌, ◌⊎◌, ◌+◌, ◌-◌, ◌^◌, ◌<◌, ◌≤◌, ℕ, List, length, take, IfSome};
+ghost use Rattle.std.specs.Prelude.{◌≡◌, ◌≢◌, ◌⊎◌, ◌+◌, ◌-◌, ◌*◌, ◌^◌, ◌<◌, ◌≤◌, ℕ, List, length, take, IfSome};
 ghost use Rattle.bit_grammar.specs.declared.op.Op.{Op};
 ghost use Rattle.bit_grammar.specs.Fields.{vbr};
 ghost use Rattle.bit_grammar.specs.Blocks.{by_definition};
@@ -32,6 +32,23 @@ impl Pass {
         };
         Some(u64::from(self.skip) + len)
     }
+
+    /// The length of the first bits, the skipped bits and the numbers, if the numbers are loaded.
+    #[inline(always)]
+    fn near(&self, fields: LoadedBits<'_>, first: u64) -> Option<u64>
+        requires there { first + 255 ≤ length (loaded fields).bits }
+        ensures has { IfSome result (λ len. (more : ℕ) × (len ≡ first + self.now.skip + more)
+            × HasNumbers self.now.chunks.bits self.now.count
+            (beyond (loaded fields.entry) (first + self.now.skip)) more) }
+        ensures few { IfSome result (λ len. len ≤ first + 312) }
+    {
+        let from = first + u64::from(self.skip);
+        if from >= 64 {
+            return None;
+        }
+        let numbers = fields.after(from as u32);
+        Some(from + numbers.few(self.chunks, u32::from(self.count))?)
+    }
 }
 
 impl Passes {
@@ -51,21 +68,25 @@ impl Passes {
         if self.count == 1 {
             return Some(len + u64::from(self.after));
         }
-        self.more_len(fields.bits(), len)
+        match self.pass[1].near(fields, len) {
+            Some(len) if self.count == 2 => Some(len + u64::from(self.after)),
+            Some(len) => self.more_len(fields.bits(), len, 2),
+            None => self.more_len(fields.bits(), len, 1),
+        }
     }
 
-    /// The same, if the first pass goes over so many bits, and others follow.
+    /// The same, if `done` passes go over `first` bits.
     #[inline(never)]
-    fn more_len(&self, bits: PlacedBits<'_>, first: u64) -> Option<u64>
-        requires some { 1 ≤ self.now.count }
-        requires has { HasPasses (take 1 self.now.pass) (placed bits) first }
-        requires left { first + 1896 ≤ length (placed bits).bits }
+    fn more_len(&self, bits: PlacedBits<'_>, first: u64, done: usize) -> Option<u64>
+        requires within { done ≤ self.now.count }
+        requires has { HasPasses (take done self.now.pass) (placed bits) first }
+        requires left { first + 2208 ≤ length (placed bits).bits + 312 * done }
         ensures has { IfSome result (λ len. (passed : ℕ) × (len ≡ passed + self.now.after)
             × HasPasses (take self.now.count self.now.pass) (placed bits.entry) passed) }
         ensures left { IfSome result (λ len. len + 64 ≤ length (placed bits.entry).bits) }
     {
         let mut len = first;
-        let mut at = 1;
+        let mut at = done;
         while at < self.count as usize {
             let pass = &self.pass[at];
             let from = len + u64::from(pass.skip);

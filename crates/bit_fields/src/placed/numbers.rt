@@ -13,7 +13,7 @@ use crate::placed::PlacedBits;
 use crate::six_bits::{end_of, is_shortest, numbers_in};
 
 /// The top bits of chunks of each width, of as many as a load has.
-static TOPS_OF: [u64; 33] = [
+pub(crate) static TOPS_OF: [u64; 33] = [
     0,
     0,
     48038396025285290,

@@ -3,21 +3,17 @@
 ghost use Rattle.std.specs.Prelude.{◌≡◌};
 
 use crate::placed::ChunkTops;
+use crate::placed::numbers::TOPS_OF;
 use crate::width::ChunkWidth;
 
 impl ChunkTops {
     /// Those of chunks of a width.
+    #[inline(always)]
     pub fn of(width: ChunkWidth) -> ChunkTops
         ensures { result.bits ≡ width.bits }
     {
-        let mut tops = 0;
-        let mut at = width.bits - 1;
-        while at < 57 {
-            tops |= 1 << at;
-            at += width.bits;
-        }
         ChunkTops {
-            tops,
+            tops: TOPS_OF[width.bits as usize],
             bits: width.bits,
         }
     }

@@ -1,5 +1,4 @@
 use Rattle.std.proofs.Common.{◌≡◌, ◌∷◌, [], List, length, subst, arith}
-use Rattle.bit_grammar.specs.declared.op.Op.{Op}
 use Rattle.bit_abbrev.specs.declared.plan.Plan.{Plan}
 use Rattle.bit_abbrev.specs.Plans.{IsPlan}
 use Rattle.bit_abbrev.proofs.Grouping.{first_still, first_more}
@@ -14,7 +13,7 @@ invariant_of-self-in-Ok c =
       | then-left-gt0+then-len w ↦
           let same : length plans ≡ length ready = omega arith in
           let made : w.of.result ≡ c.in-Some.plan = cc in
-          let is : IsPlan c.args.«abbrev» c.in-Some.plan = subst (λ (p : Plan). IsPlan c.args.«abbrev» p) made (subst (λ (ops : List Op). IsPlan ops w.of.result) w.ops.ensures.items w.of.ensures) in
+          let is : IsPlan c.args.«abbrev» c.in-Some.plan = subst (λ (p : Plan). IsPlan c.args.«abbrev» p) made w.of.ensures in
           rw (c.in_ok-push.ensures.items, c.in-Ok.ensures.items) (first_more ready plans c.args.«abbrev» c.in-Some.plan same c.self.invariant is)
       | else-left-gt0 w ↦ absurd cc
     ]
