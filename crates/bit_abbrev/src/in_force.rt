@@ -58,6 +58,7 @@ impl SharedInfo {
 
     /// The definitions in force at the beginning of a block with this id. Fails only if the table has some for the id and its
     /// reference count is exhausted.
+    #[inline(always)]
     pub fn enter(&self, alloc: Global, id: u32) -> Result<InForce, AllocError>
         ensures all { IfOk result (λ definitions. definitions.all ≡ table_of self.now id) }
         ensures newest { IfOk result (λ definitions. definitions.newest ≡ None) }

@@ -253,14 +253,14 @@ declined limits i OutputTooLong now low h = absurd h
 
 -- a definition that the machine holds is lent
 lends : (m : Machine) (values : List ℕ) (step : Step) → HoldsDefinition m (step_shown m values step) → step_lent m values step ≡ Some (step_shown m values step)
-lends m values (found.Enter id width first body) h = refl
+lends m values (found.Enter body first id width) h = refl
 lends m values (found.Define first after) h = ap (option_map (definition_of first after)) h
 lends m values (found.Record head) h = refl
 lends m values (found.Leave after) h = refl
 
 -- the values held after a step
 pub values_held : {V : Type 0} (kept : V → List ℕ) (n : Machine) (step : Step) (v w : V) → KeepsValues step v w → kept w ≡ held_after (step_shown n (kept w) step) (kept v)
-values_held kept n (found.Enter id width first body) v w e = ap kept e
+values_held kept n (found.Enter body first id width) v w e = ap kept e
 values_held kept n (found.Define first after) v w e = ap kept e
 values_held kept n (found.Record head) v w e = refl
 values_held kept n (found.Leave after) v w e = ap kept e

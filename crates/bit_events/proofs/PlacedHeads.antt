@@ -1,11 +1,11 @@
 -- Heads and ends of blocks in placed bits, field by field.
 use Rattle.std.proofs.Common.{◌≡◌, ℕ, ◌+◌, ◌*◌, ◌-◌, ◌/◌, ◌%◌, ◌^◌, ◌<◌, ◌≤◌, true, ◌&&◌, Bool, List, [], ◌++◌, length, take, drop, Result, Ok, refl, sym, ap, ◌∙◌, subst, arith, ltb, leb, eqb, bit_and}
 use Rattle.std.proofs.lemmas.Bool.{lt-ltb, le-leb}
-use Rattle.std.proofs.lemmas.List.{append-nil, length-take-le}
+use Rattle.std.proofs.lemmas.List.{append-nil, drop-take, length-drop, length-take-le}
 use Rattle.std.proofs.lemmas.Nat.Bits.{and_high_mask}
 use Rattle.bit_grammar.specs.declared.reason.Reason.TheVariants.{BlockId, AbbrevWidth, BlockLength}
 use Rattle.bit_grammar.specs.Grammar.{Fault, at, reading}
-use Rattle.bit_grammar.specs.Bits.{number}
+use Rattle.bit_grammar.specs.Bits.{bits_of, number}
 use Rattle.bit_grammar.specs.Fields.{fixed, vbr, align32, padding_length}
 use Rattle.bit_grammar.specs.Blocks as blocks
 use Rattle.bit_grammar.specs.Blocks.{block_id, new_width, block_head, end_of_block}
@@ -15,12 +15,13 @@ use Rattle.bit_fields.specs.Buffered.{BufferedBits, Reads, beyond, reader_at}
 use Rattle.bit_fields.specs.Inside.{part_of}
 use Rattle.bit_fields.specs.PlacedView.{placed}
 use Rattle.bit_fields.specs.Reader.{Reader, Took}
-use Rattle.bit_fields.proofs.BitLaws.{drop_more}
+use Rattle.bit_fields.proofs.BitLaws.{drop-bits_of, drop_more, kept_is, take-bits_of}
 use Rattle.bit_fields.proofs.BufferedReads.{reads_forward, reads_took, took_reads}
 use Rattle.bit_fields.proofs.Chunks.{one_chunk}
 use Rattle.bit_fields.proofs.LentParts.{pad_reads, parts_is}
+use Rattle.bit_fields.proofs.Loading.{front_again}
 use Rattle.bit_fields.proofs.Parts.{part_at}
-use Rattle.bit_fields.proofs.Placing.{length_at}
+use Rattle.bit_fields.proofs.Placing.{fixed_shown, length_at}
 use Rattle.bit_events.proofs.Blocks.{judged}
 use Rattle.bit_events.proofs.Telling.{told, andThen, ends, here}
 
@@ -35,9 +36,19 @@ beyond_both a m n k is = parts_is (a.position + m + n) (a.position + k) (drop n 
 pub field_after : (n m k value : ℕ) (a x : BufferedBits) → x ≡ beyond a m → k ≡ m + n → Reads (fixed n) x value (beyond x n) → Reads (fixed n) (beyond a m) value (beyond a k)
 field_after n m k value a x x_is k_is seen = subst (Reads (fixed n) (beyond a m) value) (beyond_both a m n k k_is) (subst (λ (y : BufferedBits). Reads (fixed n) y value (beyond y n)) x_is seen)
 
--- zeros, read as a number
-pub zeros_after : (n pad m k value : ℕ) (a x : BufferedBits) → n ≡ pad → value ≡ 0 → x ≡ beyond a m → k ≡ m + pad → Reads (fixed n) x value (beyond x n) → Reads (fixed pad) (beyond a m) 0 (beyond a k)
-zeros_after n pad m k value a x n_is none x_is k_is seen = subst (λ (v : ℕ). Reads (fixed pad) (beyond a m) v (beyond a k)) none (field_after pad m k value a x x_is k_is (subst (λ (i : ℕ). Reads (fixed i) x value (beyond x i)) n_is seen))
+-- a part of the bits that a word has
+part_bits : (n m more word : ℕ) (s : List Bool) → m ≤ more → bits_of (n + more) word ≡ take (n + more) s → bits_of m (word / 2 ^ n) ≡ take m (drop n s)
+part_bits n m more word s few is = sym (take-bits_of m more (word / 2 ^ n) few) ∙ ap (take m) (sym (drop-bits_of n more word) ∙ ap (drop n) is ∙ drop-take n more s) ∙ front_again m more (drop n s) few
+
+-- a field of m bits after the first n, of a word that has these and more
+pub field_inside : (n m more k word value : ℕ) (a : BufferedBits) → m ≤ more → k ≡ n + m → k ≤ length a.bits → bits_of (n + more) word ≡ take (n + more) a.bits → value ≡ word / 2 ^ n → value < 2 ^ m → Reads (fixed m) (beyond a n) value (beyond a k)
+field_inside n m more k word value a few k_is there is value_is below =
+    let shown : bits_of m value ≡ take m (drop n a.bits) = ap (bits_of m) value_is ∙ part_bits n m more word a.bits few is in
+    subst (Reads (fixed m) (beyond a n) value) (beyond_both a n m k k_is) (fixed_shown m value (beyond a n) (omega (arith, length-drop n a.bits, k_is, there)) shown below)
+
+-- the first eight bits of such a word
+pub byte_inside : (more word : ℕ) (a : BufferedBits) → 8 ≤ more → more ≤ length a.bits → bits_of more word ≡ take more a.bits → bit_and word 255 < 2 ^ 8 → Reads (fixed 8) a (bit_and word 255) (beyond a 8)
+byte_inside more word a few there is below = fixed_shown 8 (bit_and word 255) a (omega (arith, few, there)) (kept_is more word 8 (take more a.bits) few (omega arith) is ∙ front_again 8 more a.bits few) below
 
 part_of_fixed : (n value : ℕ) (a b : BufferedBits) → Reads (fixed n) a value b → Reads (part_of a.position n) a value b
 unfolding fixed

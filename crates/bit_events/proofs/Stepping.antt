@@ -310,7 +310,7 @@ moved_later deepest old a b event new c (Err fault) forward left = tt
 
 -- an unused value sink stays
 kept : {V : Type 0} (v : V) (step : Step) → KeepsValues step v v
-kept v (found.Enter id width first body) = refl
+kept v (found.Enter body first id width) = refl
 kept v (found.Define first after) = refl
 kept v (found.Record head) = tt
 kept v (found.Leave after) = refl

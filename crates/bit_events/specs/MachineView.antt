@@ -40,7 +40,7 @@ record_of id values first read = notes (record
 
 -- the event of a step, with these values for a record; a definition is the machine's newest one
 abbrev pub step_shown : Machine → List ℕ → Step → Event
-step_shown m values (found.Enter id width first body) = enters
+step_shown m values (found.Enter body first id width) = enters
     (record { id = id; width = width; first = first; body = body })
 step_shown m values (found.Define first after) = definition_of first after
     (unwrap_or (newest m.frames.items) [])
@@ -50,7 +50,7 @@ step_shown m values (found.Leave after) = leaves after
 
 -- the bit after a step
 abbrev pub bit_after : Step → ℕ
-bit_after (found.Enter id width first body) = body
+bit_after (found.Enter body first id width) = body
 bit_after (found.Define first after) = after
 bit_after (found.Record head) = head.after
 bit_after (found.Leave after) = after

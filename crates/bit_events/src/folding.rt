@@ -1,6 +1,6 @@
 //! Reading a whole input into a `Gatherer`.
 
-ghost use Rattle.std.specs.Prelude.{◌≡◌, ◌<◌, ◌≤◌, ◌-◌, ◌%◌, true, ℕ, List, [], Some, OnOk, OnErr, IfOk, length, vec_len};
+ghost use Rattle.std.specs.Prelude.{◌≡◌, ◌<◌, ◌≤◌, ◌+◌, ◌-◌, ◌%◌, true, ℕ, List, [], Some, OnOk, OnErr, IfOk, length, vec_len};
 ghost use Rattle.bit_fields.specs.Buffered.{beyond};
 ghost use Rattle.bit_fields.specs.BufferedParts.{bits_of_parts, AreParts};
 ghost use Rattle.bit_fields.specs.Opening.{head_told};
@@ -69,13 +69,32 @@ fn hand_on<G: Gatherer>(
     }
 }
 
+/// How many bits must be buffered for the beginning or the end of a block to be read from the buffer: more than 64 after the longest
+/// beginning, which has fields of 32, 8, 4, 31 and 32 bits.
+const MARGIN: u64 = 192;
+
+/// Whether the item at a bit is seen to be no record: then no record has to be looked for.
+#[inline(always)]
+fn comes_apart(parts: BufferedParts<'_>, first: u64, width: u8) -> bool
+    requires lawful { AreParts parts }
+    requires width { width ≤ 32 }
+    requires there { first ≤ (bits_of_parts parts).position + length (bits_of_parts parts).bits }
+{
+    match PlacedBits::new(parts, first) {
+        Some(bits) => bits.has(MARGIN) && bits.fixed(u32::from(width)) < 3,
+        None => false,
+    }
+}
+
 /// Gathers completely buffered records of the innermost block from a bit on, possibly none, and returns the bit after them. Whether
-/// the last ones are read depends on where the window ends: so it ends at `loaded`, as that of an exact reader.
+/// the last ones are read depends on where the window ends: so it ends at `loaded`, as that of an exact reader. Where a block has just
+/// `ended`, another one often begins or ends at once.
 #[inline(always)]
 fn gather_innermost<G: Gatherer>(
     parts: BufferedParts<'_>,
     first: u64,
     loaded: u64,
+    ended: bool,
     machine: &mut Machine,
     limits: &Limits,
     gatherer: &mut G,
@@ -100,13 +119,12 @@ fn gather_innermost<G: Gatherer>(
     if frame.info.is_some() {
         return Ok(first);
     }
+    if ended && comes_apart(parts, first, frame.head.width) {
+        return Ok(first);
+    }
     let used = &mut machine.used;
     gather_records(parts, first, loaded, frame, limits, used, gatherer, values)
 }
-
-/// How many bits must be buffered for the beginning or the end of a block to be read from the buffer: more than 64 after the longest
-/// beginning, which has fields of 32, 8, 4, 31 and 32 bits.
-const MARGIN: u64 = 192;
 
 /// Gathers buffered records, and beginnings and ends of blocks, as long as they are complete, and returns the bit after the last
 /// one. Readers of all sources share it.
@@ -133,10 +151,38 @@ fn gather_buffered<G: Gatherer>(
     ensures stops { OnErr result (StopsOn G.gathered G.fails limits.now machine.old
         (bits_of_parts parts.entry) gatherer.old gatherer.new) }
 {
+    let mut held = parts.loaded();
+    let done = gather_blocks(alloc, parts, machine, limits, gatherer, values, &mut held);
+    *loaded = held;
+    done
+}
+
+/// The same, with `loaded` at hand.
+#[inline(always)]
+fn gather_blocks<G: Gatherer>(
+    alloc: Global,
+    parts: BufferedParts<'_>,
+    machine: &mut Machine,
+    limits: &Limits,
+    gatherer: &mut G,
+    values: &mut G::Values,
+    loaded: &mut u64,
+) -> Result<u64, AllocError>
+    requires lawful { AreParts parts }
+    requires some { 0 < vec_len machine.old.frames }
+    requires took { TookSome G.Values.took values.old }
+    ensures took { TookSome G.Values.took values.new }
+    ensures gathers { IfOk result (λ after. GathersUpTo G.gathered limits.now machine.old
+        (bits_of_parts parts.entry) gatherer.old machine.new after gatherer.new) }
+    ensures stops { OnErr result (StopsOn G.gathered G.fails limits.now machine.old
+        (bits_of_parts parts.entry) gatherer.old gatherer.new) }
+{
     let mut first = parts.position();
-    *loaded = parts.loaded();
+    let mut ended = false;
     loop {
-        first = gather_innermost(parts, first, *loaded, machine, limits, gatherer, values)?;
+        first = gather_innermost(
+            parts, first, *loaded, ended, machine, limits, gatherer, values,
+        )?;
         *loaded = loaded_at(first, *loaded);
         let Some(bits) = PlacedBits::new(parts, first) else {
             return Ok(first);
@@ -148,6 +194,7 @@ fn gather_buffered<G: Gatherer>(
             return Ok(first);
         };
         first = step.after();
+        ended = step.is_end();
         hand_on(gatherer, machine, step, values)?;
     }
 }

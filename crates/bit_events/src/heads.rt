@@ -86,6 +86,17 @@ pub(crate) fn loaded_by(first: u64, bits: u64, loaded: u64) -> u64
     loaded
 }
 
+/// The same once it has read fields of eight and of four bits.
+#[inline(always)]
+fn loaded_by_two(first: u64, loaded: u64) -> u64
+    requires { first + 72 < 2 ^ 64 }
+{
+    if first + 12 > loaded {
+        return loaded_by(first + 8, 4, loaded_by(first, 8, loaded));
+    }
+    loaded
+}
+
 /// The same once it has read padding up to a bit.
 #[inline(always)]
 fn loaded_by_padding(after: u64, loaded: u64) -> u64
@@ -98,27 +109,26 @@ fn loaded_by_padding(after: u64, loaded: u64) -> u64
 }
 
 /// Reads what comes between a block's abbreviation id and its items, and up to which bit an exact reader has loaded bytes then. `None`
-/// leaves it to that reader: also an id or a width of more than one chunk, which is rare.
+/// leaves it to that reader: also an id or a width of more than one chunk, and a BLOCKINFO block, which are rare.
 #[inline(always)]
 pub(crate) fn placed_head(bits: PlacedBits<'_>, loaded: u64) -> Option<(BlockHead, u64)>
     requires { 160 ≤ length (placed bits).bits }
-    ensures { IfSome result (λ read. ReadsUpTo block_head (placed bits.entry) (head_shown read.0)
+    ensures reads { IfSome result (λ read. ReadsUpTo block_head (placed bits.entry) (head_shown read.0)
         read.0.body) }
+    ensures plain { IfSome result (λ read. 0 < read.0.id) }
 {
-    let id = bits.fixed(8);
-    let width = bits.after(8).fixed(4);
-    if id >= 1 << 7 || width >= 1 << 3 || width == 0 {
-        return None;
-    }
     let first = bits.position();
-    let padding = first + 12;
-    let length_at = (padding + 31) & !31;
+    let length_at = (first + 12 + 31) & !31;
     let to_length = length_at - first;
-    if bits.after(12).fixed((to_length - 12) as u32) != 0 {
+    // The id, the width and the padding, which is to be 0.
+    let word = bits.front(to_length as u32);
+    let id = word & 0xff;
+    let width = word >> 8;
+    if id >= 1 << 7 || width >= 1 << 3 || id == 0 || width == 0 {
         return None;
     }
     let words = bits.after(to_length).fixed(32);
-    let loaded = loaded_by(first + 8, 4, loaded_by(first, 8, loaded));
+    let loaded = loaded_by_two(first, loaded);
     let loaded = loaded_by(length_at, 32, loaded_by_padding(length_at, loaded));
     let head = BlockHead {
         id: id as u32,

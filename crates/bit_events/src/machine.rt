@@ -37,10 +37,10 @@ const MOST_BEFORE: u64 = 1 << 63;
 #[derive(Clone, Copy)]
 pub(crate) enum Step {
     Enter {
+        body: u64,
+        first: u64,
         id: u32,
         width: u8,
-        first: u64,
-        body: u64,
     },
     Define {
         first: u64,
@@ -74,6 +74,15 @@ impl Step {
             Step::Leave { after } => after,
         }
     }
+
+    /// Whether it is a block's end.
+    #[inline(always)]
+    pub(crate) fn is_end(self) -> bool {
+        match self {
+            Step::Leave { .. } => true,
+            _ => false,
+        }
+    }
 }
 
 impl Machine {
@@ -94,11 +103,10 @@ impl Machine {
     #[inline(always)]
     fn push(
         &mut self,
+        alloc: Global,
         head: BlockHead,
-        definitions: InForce,
         info: Option<Describing>,
     ) -> Result<(), AllocError>
-        requires definitions { definitions.all ≡ table_of self.old.table head.id }
         requires info { info_shown info ≡ info_for head.id }
         ensures made { OnOk result (machine_shown self.new
             ≡ inside (head_shown head) (frames_shown self.old.frames.items)
@@ -106,25 +114,22 @@ impl Machine {
         ensures more { OnOk result (vec_len self.new.frames ≡ vec_len self.old.frames + 1) }
         ensures fewer { OnErr result (vec_len self.new.frames ≤ vec_len self.old.frames) }
     {
-        self.frames.push(Frame {
+        // The room comes first, so that no path drops the definitions.
+        self.frames.reserve(1)?;
+        let definitions = self.table.enter(alloc, head.id)?;
+        self.frames.push_reserved(Frame {
             head,
             definitions,
             info,
-        })?;
+        });
         Ok(())
     }
 
     /// Opens a BLOCKINFO block.
     #[cold]
     #[inline(never)]
-    fn enter_info(
-        &mut self,
-        alloc: Global,
-        head: BlockHead,
-        definitions: InForce,
-    ) -> Result<(), AllocError>
+    fn enter_info(&mut self, alloc: Global, head: BlockHead) -> Result<(), AllocError>
         requires id { head.id ≡ 0 }
-        requires definitions { definitions.all ≡ table_of self.old.table head.id }
         ensures made { OnOk result (machine_shown self.new
             ≡ inside (head_shown head) (frames_shown self.old.frames.items)
             (enter head.id (handed_shown self.old))) }
@@ -133,7 +138,7 @@ impl Machine {
     {
         let made = InfoBuilder::new(alloc, self.planning.at(head.body));
         let described = None;
-        self.push(head, definitions, Some(Describing { described, made }))
+        self.push(alloc, head, Some(Describing { described, made }))
     }
 
     /// Opens a block.
@@ -144,11 +149,10 @@ impl Machine {
         ensures more { OnOk result (vec_len self.new.frames ≡ vec_len self.old.frames + 1) }
         ensures fewer { OnErr result (vec_len self.new.frames ≤ vec_len self.old.frames) }
     {
-        let definitions = self.table.enter(alloc, head.id)?;
         if head.id == 0 {
-            return self.enter_info(alloc, head, definitions);
+            return self.enter_info(alloc, head);
         }
-        self.push(head, definitions, None)
+        self.push(alloc, head, None)
     }
 
     /// Reads a block's beginning, after its id, which began at `first`. Source: "ENTER_SUBBLOCK Encoding".
@@ -260,12 +264,14 @@ impl Machine {
         }
     }
 
-    /// Opens a block whose beginning is at `first`; the bits are those after its id.
+    /// Opens a block whose beginning is at `first`; the bits are those after its id. It is no BLOCKINFO block. The reader has loaded the
+    /// bits up to `held` with that id.
     #[inline(always)]
     fn open_placed(
         &mut self,
         alloc: Global,
         bits: PlacedBits<'_>,
+        held: u64,
         loaded: &mut u64,
         limits: &Limits,
         first: u64,
@@ -278,11 +284,11 @@ impl Machine {
         if self.frames.len() >= limits.depth() as usize {
             return Ok(None);
         }
-        let Some((head, held)) = placed_head(bits, *loaded) else {
+        let Some((head, held)) = placed_head(bits, held) else {
             return Ok(None);
         };
         *loaded = held;
-        self.enter(alloc, head)?;
+        self.push(alloc, head, None)?;
         Ok(Some(Step::Enter {
             id: head.id,
             width: head.width,
@@ -291,9 +297,9 @@ impl Machine {
         }))
     }
 
-    /// Ends the innermost block; the bits are those after the id.
+    /// Ends the innermost block; the bits are those after the id, with which the reader has loaded those up to `held`.
     #[inline(always)]
-    fn end_placed(&mut self, bits: PlacedBits<'_>, loaded: &mut u64) -> Option<Step>
+    fn end_placed(&mut self, bits: PlacedBits<'_>, held: u64, loaded: &mut u64) -> Option<Step>
         requires { 160 ≤ length (placed bits).bits }
         ensures steps { (deepest : ℕ) → InBlock self.old (λ f outer. f.info ≡ None
             → StepsHere (end_rule f outer (handed_shown self.old)) deepest self.old
@@ -303,7 +309,7 @@ impl Machine {
         ensures moves { IfSome result (λ step. (placed bits.entry).position ≤ bit_after step) }
     {
         let frame = self.frames.last()?;
-        let (after, held) = placed_end(bits, frame.head, *loaded)?;
+        let (after, held) = placed_end(bits, frame.head, held)?;
         *loaded = held;
         let Some(_frame) = self.frames.pop() else {
             unreachable!();
@@ -336,18 +342,12 @@ impl Machine {
         if id > 1 {
             return Ok(None);
         }
-        let mut held = loaded_by(first, u64::from(width), *loaded);
+        let held = loaded_by(first, u64::from(width), *loaded);
         let after = bits.after(u64::from(width));
-        let step = if id == 1 {
-            self.open_placed(alloc, after, &mut held, limits, first)
-        } else {
-            Ok(self.end_placed(after, &mut held))
-        };
-        match step {
-            Ok(None) => {}
-            _ => *loaded = held,
+        if id == 1 {
+            return self.open_placed(alloc, after, held, loaded, limits, first);
         }
-        step
+        Ok(self.end_placed(after, held, loaded))
     }
 
     /// Drops the open blocks. The input is not read on.

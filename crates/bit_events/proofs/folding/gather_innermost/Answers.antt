@@ -14,6 +14,9 @@ returns-in_default-clause-gathers g c = up_to_none g.G.Gatherer.gathered c.args.
 pub returns-then-is_some-clause-gathers : goal.returns-then-is_some-clause-gathers
 returns-then-is_some-clause-gathers g c = up_to_none g.G.Gatherer.gathered c.args.limits.now c.args.machine.now (beyond (bits_of_parts c.args.parts) (c.args.first - c.args.parts.position)) c.args.gatherer.now c.args.first (omega (arith, c.requires.least)) c.requires.aligned
 
+pub returns-then-comes_apart-clause-gathers : goal.returns-then-comes_apart-clause-gathers
+returns-then-comes_apart-clause-gathers g c = up_to_none g.G.Gatherer.gathered c.args.limits.now c.args.machine.now (beyond (bits_of_parts c.args.parts) (c.args.first - c.args.parts.position)) c.args.gatherer.now c.args.first (omega (arith, c.requires.least)) c.requires.aligned
+
 pub returns-clause-gathers : goal.returns-clause-gathers
 returns-clause-gathers g c =
     let m = c.args.machine.now in

@@ -2,7 +2,7 @@ use Rattle.std.proofs.Common.{◌-◌, ◌^◌}
 use Rattle.bit_fields.specs.BufferedParts.{bits_of_parts}
 use Rattle.bit_events.specs.MachineView.{TookSome}
 use Rattle.bit_events.specs.Runs.{GathersUpTo}
-use Rattle.bit_events.proofs.folding.gather_buffered.Given as goal
+use Rattle.bit_events.proofs.folding.gather_blocks.Given as goal
 
 abbrev pub invariant-loop-first : goal.invariant-loop-first
 invariant-loop-first g l = record {

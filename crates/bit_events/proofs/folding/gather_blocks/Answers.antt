@@ -10,7 +10,7 @@ use Rattle.bit_events.specs.declared.machine.Step.{Step}
 use Rattle.bit_events.specs.MachineView.{bit_after, machine_shown}
 use Rattle.bit_events.specs.Runs.{GathersUpTo, StepsHere}
 use Rattle.bit_events.proofs.Blocks.{up_to_none, up_to_both, up_to_there, up_to_step, stop_at_step, stop_behind, stop_here}
-use Rattle.bit_events.proofs.folding.gather_buffered.Goals as goal
+use Rattle.bit_events.proofs.folding.gather_blocks.Goals as goal
 
 pub loop-first-init : goal.loop-first-init
 loop-first-init g c = record {
