@@ -2,6 +2,7 @@
 use Rattle.std.proofs.Common.{◌≡◌, ◌≢◌, ℕ, zero, suc, ◌+◌, ◌-◌, ◌<◌, ◌≤◌, List, [], ◌∷◌, ◌++◌, length, map, Option, Some, None, Result, Ok, Err, IfSome, IfOk, slice_get, refl, sym, ap, ◌∙◌, subst, arith, append_assoc}
 use Rattle.std.specs.declared.alloc.AllocError.{AllocError}
 use Rattle.std.proofs.lemmas.List.{append-nil, length-drop, map-append}
+use Rattle.std.proofs.lemmas.List.Sums.{sum_by_push}
 use Rattle.bit_grammar.specs.declared.op.Op.{Op}
 use Rattle.bit_grammar.specs.Blocks.{by_definition, entry}
 use Rattle.bit_grammar.specs.Fields.{fixed}
@@ -100,6 +101,7 @@ none_gathered gathered g = λ first done was some. subst (λ (events : List Even
 pub none_passed : (width : ℕ) (definitions : List (List Op)) (room : ℕ) (a : BufferedBits) → PassedTo width definitions room a [] room a
 none_passed width definitions room a = record {
   less = omega arith;
+  spent = omega arith;
   passes = λ limits f used wide plain same most.
       let still : used ≡ used + (room - room) = omega arith in
       subst (λ (n : ℕ). GathersTo collected limits f used a [] n a []) still (gathers_none collected limits f used a []);
@@ -108,6 +110,7 @@ none_passed width definitions room a = record {
 pub passes_records : (width : ℕ) (definitions : List (List Op)) (room : ℕ) (a : BufferedBits) (records : List RecordMark) (left : ℕ) (b : BufferedBits) (run : PassedRun) → PassedTo width definitions room a records left b → run.room ≡ left → run.after ≡ b.position → PassesRecords width definitions room a records run
 passes_records width definitions room a records left b run so room_is after_is = record {
   less = omega (arith, room_is, so.less);
+  spent = omega (arith, room_is, so.spent);
   passes = λ limits f used wide plain same most. (
     b,
     sym after_is,
@@ -120,6 +123,7 @@ pub one_passed : (width : ℕ) (definitions : List (List Op)) (room : ℕ) (a : 
     → PassedTo width definitions room a (records ++ mark_of one list ∷ []) (left - length list) c
 one_passed width definitions room a records left b one list c so most id_seen seen few first_is after_is = record {
   less = omega (arith, so.less);
+  spent = omega (arith, so.spent, few, sum_by_push (λ (mark : RecordMark). length mark.values) records (mark_of one list));
   passes = λ limits f used wide plain same all.
       let now : ℕ = used + (room - left) in
       let more : used + (room - (left - length list)) ≡ now + length list = omega (arith, so.less, few) in
@@ -175,6 +179,12 @@ pub on_records : {C : Type 0} (counted : C → List RecordMark → C → Type 0)
     → PassesOn counted width definitions old room a new left b → counted old [] old → run.room ≡ left → run.after ≡ b.position → (records : List RecordMark) × counted old records new × PassesRecords width definitions room a records run
 on_records counted width definitions old room a new left b run was none room_is after_is =
     (was.records, was.counts old [] none, passes_records width definitions room a was.records left b run (was.passes room a [] (none_passed width definitions room a)) room_is after_is)
+
+-- what is said of a step for definitions of which something is known
+pub steps_known : {S : Type 0} (Known Passes : List (List Op) → Type 0) (Steps : S → List (List Op) → Type 0) (result : Result S AllocError) → ((definitions : List (List Op)) → Known definitions → Passes definitions)
+    → IfOk result (λ step. (definitions : List (List Op)) → Passes definitions → Steps step definitions) → IfOk result (λ step. (definitions : List (List Op)) → Known definitions → Steps step definitions)
+steps_known Known Passes Steps (Ok step) passes steps = λ definitions known. steps definitions (passes definitions known)
+steps_known Known Passes Steps (Err e) passes steps = tt
 
 -- what a counter counted was gathered
 pub counted_gathered : {C G : Type 0} (counted : C → List RecordMark → C → Type 0) (gathered : G → List Event → G → Type 0) (width : ℕ) (definitions : List (List Op)) (room : ℕ) (a : BufferedBits) (old new : C) (g h : G) (result : Result PassedRun AllocError) → ((records : List RecordMark) → counted old records new → GathersRecords gathered g records h)

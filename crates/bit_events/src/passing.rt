@@ -1,13 +1,14 @@
 //! Records that are passed over, since only the number of their values is wanted.
 
-ghost use Rattle.std.specs.Prelude.{◌≡◌, ◌+◌, ◌≤◌, true, false, ℕ, List, [], IfSome, IfOk, length};
+ghost use Rattle.std.specs.Prelude.{◌≡◌, ◌+◌, ◌<◌, ◌≤◌, true, false, ℕ, List, [], IfSome, IfOk, length};
 ghost use Rattle.bit_grammar.specs.declared.op.Op.{Op};
 ghost use Rattle.bit_grammar.specs.Blocks.{entry};
 ghost use Rattle.bit_grammar.specs.Marks.{RecordMark};
-ghost use Rattle.bit_fields.specs.Buffered.{beyond};
+ghost use Rattle.bit_grammar.specs.Fields.{fixed};
+ghost use Rattle.bit_fields.specs.Buffered.{Reads, beyond};
 ghost use Rattle.bit_fields.specs.PlacedView.{placed};
 ghost use Rattle.bit_abbrev.specs.Plans.{ArePlans, PassesOver};
-ghost use Rattle.bit_events.specs.Passing.{CountsOne, PassesOn, PassesRecords, mark_of};
+ghost use Rattle.bit_events.specs.Passing.{CountsOne, PassesOn, PassesRecords, StepsOn, mark_of};
 
 use bit_abbrev::{Definitions, InForce, MARGIN, Passed, Plan, pass_by_operands, pass_plain};
 use bit_fields::PlacedBits;
@@ -87,7 +88,7 @@ trait PassOne: Copy {
     /// Passes over the fields of a record after its id, which has this width. `None` passes over nothing: the record is then read.
     fn pass_one(self, bits: PlacedBits<'_>, width: u32, id: u64, room: u64) -> Option<Passed>
         requires width { width ≤ 32 }
-        requires id { 3 ≤ id }
+        requires id { 4 ≤ id }
         requires there { 2240 ≤ length (placed bits).bits }
         ensures passes { IfSome result (λ passed. (first : ℕ) (definitions : List (List Op))
             → knows self definitions → passed.count ≤ room
@@ -107,9 +108,6 @@ impl<'a> PassOne for ByPlans<'a> {
     #[inline(always)]
     fn pass_one(self, bits: PlacedBits<'_>, width: u32, id: u64, room: u64) -> Option<Passed> {
         let fields = bits.load().after(width);
-        if id == 3 {
-            return pass_plain(fields);
-        }
         self.plans.get((id - 4) as usize)?.pass(fields, room)
     }
 }
@@ -125,9 +123,6 @@ impl<'a> PassOne for ByOperands<'a> {
 
     #[inline(always)]
     fn pass_one(self, bits: PlacedBits<'_>, width: u32, id: u64, room: u64) -> Option<Passed> {
-        if id == 3 {
-            return pass_plain(bits.load().after(width));
-        }
         let abbrev = self.definitions.get((id - 4) as usize)?;
         pass_by_operands(bits.after(u64::from(width)), abbrev, room)
     }
@@ -140,6 +135,76 @@ struct Passing<'a> {
     bits: PlacedBits<'a>,
     room: u64,
     is_over: bool,
+}
+
+/// Counts a record that was passed over, and returns the bits behind it and how many values may still come. `None` if it has too many
+/// values or is not counted.
+#[inline(always)]
+fn count_one<'a, C: RunCounter>(
+    bits: PlacedBits<'a>,
+    width: u32,
+    id: u64,
+    passed: Passed,
+    room: u64,
+    counter: &mut C,
+) -> Result<Option<(PlacedBits<'a>, u64)>, AllocError>
+    requires id { 3 ≤ id }
+    requires reads { Reads (fixed width) (placed bits) id (beyond (placed bits) width) }
+    requires within { width + passed.len ≤ length (placed bits).bits }
+    ensures steps { IfOk result (λ step. (definitions : List (List Op))
+        → ((first : ℕ) → passed.count ≤ room
+        → PassesOver (entry room first id definitions) (beyond (placed bits.entry) width) passed)
+        → StepsOn C.counted width definitions counter.old room (placed bits.entry) counter.new step) }
+    ensures moves { IfOk result (λ step. IfSome step (λ next.
+        length (placed next.0).bits < length (placed bits.entry).bits)) }
+{
+    if passed.count > room {
+        return Ok(None);
+    }
+    let after = bits.after(u64::from(width) + passed.len);
+    let counts = counter.count(CountedRecord {
+        id,
+        code: passed.code,
+        count: passed.count,
+        first: bits.position(),
+        after: after.position(),
+    })?;
+    if !counts {
+        return Ok(None);
+    }
+    Ok(Some((after, room - passed.count)))
+}
+
+/// Passes over a record with this abbreviation id and counts it. `None` if it is not passed over.
+#[inline(always)]
+fn pass_next<'a, C: RunCounter, P: PassOne>(
+    bits: PlacedBits<'a>,
+    width: u32,
+    id: u64,
+    by: P,
+    room: u64,
+    counter: &mut C,
+) -> Result<Option<(PlacedBits<'a>, u64)>, AllocError>
+    requires width { width ≤ 32 }
+    requires id { 3 ≤ id }
+    requires there { 2240 ≤ length (placed bits).bits }
+    requires reads { Reads (fixed width) (placed bits) id (beyond (placed bits) width) }
+    ensures steps { IfOk result (λ step. (definitions : List (List Op)) → P.knows by definitions
+        → StepsOn C.counted width definitions counter.old room (placed bits.entry) counter.new step) }
+    ensures moves { IfOk result (λ step. IfSome step (λ next.
+        length (placed next.0).bits < length (placed bits.entry).bits)) }
+{
+    // Each kind of record has its own copy of the counter's code, which knows the kind.
+    if id == 3 {
+        let Some(passed) = pass_plain(bits.load().after(width)) else {
+            return Ok(None);
+        };
+        return count_one(bits, width, id, passed, room, counter);
+    }
+    let Some(passed) = by.pass_one(bits, width, id, room) else {
+        return Ok(None);
+    };
+    count_one(bits, width, id, passed, room, counter)
 }
 
 /// Passes over records with abbreviation ids of a width, as long as they are not odd and a margin of bits is there. They have at most
@@ -166,24 +231,10 @@ fn pass_run<'a, C: RunCounter, P: PassOne>(
             is_over = true;
             break;
         }
-        let Some(passed) = by.pass_one(bits, width, id, room) else {
+        let Some((after, left)) = pass_next(bits, width, id, by, room, counter)? else {
             break;
         };
-        if passed.count > room {
-            break;
-        }
-        let after = bits.after(u64::from(width) + passed.len);
-        let counts = counter.count(CountedRecord {
-            id,
-            code: passed.code,
-            count: passed.count,
-            first: bits.position(),
-            after: after.position(),
-        })?;
-        if !counts {
-            break;
-        }
-        room -= passed.count;
+        room = left;
         bits = after;
     }
     Ok(Passing {
