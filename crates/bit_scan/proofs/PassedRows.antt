@@ -1,61 +1,137 @@
 -- Records that are passed over, counted in the row of the innermost open block.
-use Rattle.std.proofs.Common.{◌≡◌, ℕ, ◌-◌, ◌<◌, zero, suc, Bool, true, false, List, [], ◌∷◌, ◌++◌, length, map, Some, Result, Ok, Err, refl, sym, ap, ◌∙◌, subst, slice_get, if◌then◌else◌, ◌==◌, leb, MutBor, arith, take, drop}
+use Rattle.std.proofs.Common.{◌≡◌, ℕ, ◌-◌, ◌<◌, zero, suc, Bool, true, false, List, [], ◌∷◌, ◌++◌, length, map, Some, Result, Ok, Err, refl, sym, ap, ◌∙◌, subst, slice_get, if◌then◌else◌, ◌==◌, leb, min, ◌+◌, MutBor, arith, take, drop}
 use Rattle.std.proofs.Math.ListN.{set}
 use Rattle.std.proofs.lemmas.Bool.{eq-eqb}
 use Rattle.std.proofs.lemmas.List.{take_at}
-use Rattle.std.specs.Prelude.{OnOk, IfOk}
+use Rattle.std.proofs.lemmas.List.Sums.{sum_by-cons, sum_by_push}
+use Rattle.std.specs.Prelude.{OnOk, IfOk, sum_by}
 use Rattle.std.specs.Map.{keys_of}
 use Rattle.std.specs.declared.alloc.AllocError.{AllocError}
 use Rattle.bit_grammar.specs.Machine.{Event, notes}
 use Rattle.bit_grammar.specs.Marks.{RecordMark}
-use Rattle.bit_grammar.specs.Tally.{BlockTally}
+use Rattle.bit_grammar.specs.Bits.{saturated}
+use Rattle.bit_grammar.specs.Tally.{CodeTally, BlockTally, record_bits, is_abbreviated}
 use Rattle.bit_grammar.specs.Counting.{OpenCount, Counts, fresh_row, one_record, with_row, no_counts, count_event, count_events}
 use Rattle.bit_events.specs.declared.passing.CountedRecord.{CountedRecord}
 use Rattle.bit_events.specs.Gathering.{left_open}
-use Rattle.bit_events.specs.Passing.{mark_of}
-use Rattle.bit_scan.specs.Additions.{with_added}
+use Rattle.bit_events.specs.Passing.{mark_of, values_of}
+use Rattle.bit_scan.specs.CodesView.{code_tallies, with_use}
 use Rattle.bit_scan.specs.Counting.{open_count, open_counts}
-use Rattle.bit_scan.specs.Cut.{cut_open, cut_row, cut_rows, capped_counts}
+use Rattle.bit_scan.specs.Cut.{cut_code, cut_open, cut_row, cut_rows, capped_counts}
 use Rattle.bit_scan.specs.Indexed.{AreDistinct}
-use Rattle.bit_scan.specs.Rows.{block_tally, block_tallies, with_records, rows_after, CountsInRow, CountsBehind}
+use Rattle.bit_scan.specs.Rows.{block_tally, block_tallies, with_records, with_uses, with_run, plain_in, abbreviated_in, rows_after, with_codes, CountsInRow, CountsBehind}
 use Rattle.bit_scan.specs.declared.counter.CountedBlock.{CountedBlock}
 use Rattle.bit_scan.specs.declared.counter.Counter.{Counter}
-use Rattle.bit_scan.specs.declared.rows.Addition.TheVariants as addition
 use Rattle.bit_scan.specs.declared.rows.BlockRow.{BlockRow}
+use Rattle.bit_scan.specs.declared.rows.CodeRow.{CodeRow}
 use Rattle.bit_scan.specs.declared.rows.RowCounter.{RowCounter}
 use Rattle.bit_scan.proofs.Changes.{records_at}
 use Rattle.bit_scan.proofs.Changing.{keys_length}
+use Rattle.bit_scan.proofs.Saturating.{sum_stops}
 use Rattle.bit_scan.proofs.OpenBlocks.{Last, the_last, open_push}
 
 -- ---- one more record
 
-records_then : (done : List RecordMark) (mark : RecordMark) (tally : BlockTally) → with_records (done ++ mark ∷ []) tally ≡ one_record mark (with_records done tally)
-records_then [] mark tally = refl
-records_then (first ∷ done) mark tally = records_then done mark (one_record first tally)
+uses_then : (done : List RecordMark) (mark : RecordMark) (codes : List CodeTally) → with_uses (done ++ mark ∷ []) codes ≡ with_use mark.code (record_bits mark) (with_uses done codes)
+uses_then [] mark codes = refl
+uses_then (first ∷ done) mark codes = uses_then done mark (with_use first.code (record_bits first) codes)
 
--- a row in which a record is counted after others
-one_counted : (first old new : BlockRow) (done : List RecordMark) (mark : RecordMark) → CountsInRow first done old
-    → ((id : ℕ) (tally : BlockTally) → block_tally (id, old) ≡ cut_row tally → block_tally (id, new) ≡ cut_row (one_record mark tally))
-    → CountsInRow first (done ++ mark ∷ []) new
-one_counted first old new done mark counted step = λ id tally shown. step id (with_records done tally) (counted id tally shown) ∙ ap cut_row (sym (records_then done mark tally))
+-- a record that was passed over is counted after others
+pub one_passed : (result : Result (Unit {0}) AllocError) (passed : CountedRecord) (old : RowCounter) (row : BlockRow) (places : MutBor (List ℕ)) (plain abbreviated : ℕ) → row ≡ with_codes row.codes old.row.now
+    → ((tallies : List CodeTally) → code_tallies old.row.now.codes ≡ map cut_code tallies → OnOk result (code_tallies row.codes ≡ map cut_code (with_use passed.code (passed.after - passed.first) tallies)))
+    → plain ≡ min (old.plain + (if leb 4 passed.id then 0 else 1)) 18446744073709551615 → abbreviated ≡ min (old.abbreviated + (if leb 4 passed.id then 1 else 0)) 18446744073709551615
+    → OnOk result ((list : List ℕ) → length list ≡ passed.count → (first : RowCounter) (done : List RecordMark) → CountsBehind first done old
+    → CountsBehind first (done ++ mark_of passed list ∷ []) (record { row = record old.row { now = row }; places = places; plain = plain; abbreviated = abbreviated }))
+one_passed (Err e) passed old row places plain abbreviated row_is used plain_is abbreviated_is = tt
+one_passed (Ok x) passed old row places plain abbreviated row_is used plain_is abbreviated_is = λ list many first done was.
+    let mark : RecordMark = mark_of passed list in
+    record {
+      same = was.same;
+      row = row_is ∙ ap (with_codes row.codes) was.row;
+      codes = λ tallies shown. used (with_uses done tallies) (was.codes tallies shown) ∙ ap (map cut_code) (sym (uses_then done mark tallies));
+      plain = plain_is ∙ sum_stops old.plain (first.plain + plain_in done) (if leb 4 passed.id then 0 else 1) was.plain ∙ ap saturated (more mark first.plain done (λ (m : RecordMark). if is_abbreviated m then 0 else 1));
+      abbreviated = abbreviated_is ∙ sum_stops old.abbreviated (first.abbreviated + abbreviated_in done) (if leb 4 passed.id then 1 else 0) was.abbreviated ∙ ap saturated (more mark first.abbreviated done (λ (m : RecordMark). if is_abbreviated m then 1 else 0));
+    }
+  where
+    more : (mark : RecordMark) (n : ℕ) (done : List RecordMark) (f : RecordMark → ℕ) → n + sum_by f done + f mark ≡ n + sum_by f (done ++ mark ∷ [])
+    more mark n done f = omega (arith, sum_by_push f done mark)
 
--- a record that was passed over is counted
-pub one_passed : (result : Result (Unit {0}) AllocError) (passed : CountedRecord) (old new : MutBor BlockRow) → new.ghost_name ≡ old.ghost_name
-    → ((id : ℕ) (tally : BlockTally) → block_tally (id, old.now) ≡ cut_row tally → OnOk result (block_tally (id, new.now) ≡ cut_row (with_added (addition.Record passed.code (leb 4 passed.id) passed.count (passed.after - passed.first)) tally)))
-    → OnOk result ((list : List ℕ) → length list ≡ passed.count → (first : RowCounter) (done : List RecordMark) → CountsBehind first.row done old → CountsBehind first.row (done ++ mark_of passed list ∷ []) new)
-one_passed (Ok x) passed old new same added = λ list many first done was. record {
-  same = same ∙ was.same;
-  counts = one_counted first.row.now old.now new.now done (mark_of passed list) was.counts (λ id tally shown.
-      subst (λ (n : ℕ). block_tally (id, new.now) ≡ cut_row (with_added (addition.Record passed.code (leb 4 passed.id) n (passed.after - passed.first)) tally)) (sym many) (added id tally shown));
+-- nothing was counted
+pub none_counted : (counter : RowCounter) → counter.plain < 18446744073709551616 → counter.abbreviated < 18446744073709551616 → CountsBehind counter [] counter
+none_counted counter few some = record {
+  same = refl;
+  row = refl;
+  codes = λ tallies shown. shown;
+  plain = omega (arith, few);
+  abbreviated = omega (arith, some);
 }
-one_passed (Err e) passed old new same added = tt
 
--- the row is what the reference left behind, on success
-pub row_left : {T : Type 0} (Passes : List RecordMark → T → Type 0) (result : Result T AllocError) (old new : MutBor BlockRow) (last : BlockRow) → (old.ghost_name ≡ new.ghost_name → last ≡ new.now)
-    → IfOk result (λ run. (records : List RecordMark) × CountsBehind old records new × Passes records run)
-    → IfOk result (λ run. (records : List RecordMark) × CountsInRow old.now records last × Passes records run)
-row_left Passes (Ok run) old new last left passed = (passed.0, λ id tally shown. subst (λ (row : BlockRow). block_tally (id, row) ≡ cut_row (with_records passed.0 tally)) (sym (left (sym passed.1.same))) (passed.1.counts id tally shown), passed.2)
-row_left Passes (Err e) old new last left passed = tt
+-- ---- the sums of a run
+
+one_kind : (b : Bool) → (if b then 0 else 1) + (if b then 1 else 0) ≡ 1
+one_kind true = refl
+one_kind false = refl
+
+-- each record is abbreviated or not
+all_records : (records : List RecordMark) → plain_in records + abbreviated_in records ≡ length records
+all_records [] = refl
+all_records (mark ∷ records) =
+    omega (arith, sum_by-cons (λ (m : RecordMark). if is_abbreviated m then 0 else 1) mark records, sum_by-cons (λ (m : RecordMark). if is_abbreviated m then 1 else 0) mark records, one_kind (is_abbreviated mark), all_records records)
+
+-- what records add to a row
+abbrev with_sums : List RecordMark → BlockTally → BlockTally
+with_sums records tally = record tally {
+  records = tally.records + length records;
+  abbreviated = tally.abbreviated + abbreviated_in records;
+  values = tally.values + values_of records;
+  codes = with_uses records tally.codes;
+}
+
+same_sums : (tally : BlockTally) (codes : List CodeTally) {a b c d e f : ℕ} → a ≡ b → c ≡ d → e ≡ f
+    → ◌≡◌ {A = BlockTally} (record tally { records = a; abbreviated = c; values = e; codes = codes }) (record tally { records = b; abbreviated = d; values = f; codes = codes })
+same_sums tally codes one two three = rw (one, two, three) refl
+
+records_sums : (records : List RecordMark) (tally : BlockTally) → with_records records tally ≡ with_sums records tally
+records_sums [] tally =
+    let some : tally.records ≡ tally.records + 0 = omega arith in
+    let abbreviated : tally.abbreviated ≡ tally.abbreviated + 0 = omega arith in
+    let values : tally.values ≡ tally.values + 0 = omega arith in
+    same_sums tally tally.codes some abbreviated values
+records_sums (mark ∷ records) tally =
+    let one : ℕ = if is_abbreviated mark then 1 else 0 in
+    let some : (tally.records + 1) + length records ≡ tally.records + length (mark ∷ records) = omega arith in
+    let abbreviated : (tally.abbreviated + one) + abbreviated_in records ≡ tally.abbreviated + abbreviated_in (mark ∷ records) = omega (arith, sum_by-cons (λ (m : RecordMark). if is_abbreviated m then 1 else 0) mark records) in
+    let values : (tally.values + length mark.values) + values_of records ≡ tally.values + values_of (mark ∷ records) = omega (arith, sum_by-cons (λ (m : RecordMark). length m.values) mark records) in
+    records_sums records (one_record mark tally) ∙ same_sums tally (with_uses (mark ∷ records) tally.codes) some abbreviated values
+
+shown_sums : (records : List RecordMark) (tally : BlockTally) (id blocks bits definitions some abbreviated values : ℕ) (codes : List CodeTally) → id ≡ tally.id → blocks ≡ saturated tally.blocks → bits ≡ saturated tally.bits → definitions ≡ saturated tally.definitions
+    → some ≡ saturated (tally.records + length records) → abbreviated ≡ saturated (tally.abbreviated + abbreviated_in records) → values ≡ saturated (tally.values + values_of records) → codes ≡ map cut_code (with_uses records tally.codes)
+    → ◌≡◌ {A = BlockTally} (record { id = id; blocks = blocks; bits = bits; definitions = definitions; records = some; abbreviated = abbreviated; values = values; codes = codes }) (cut_row (with_records records tally))
+shown_sums records tally id blocks bits definitions some abbreviated values codes one two three four five six seven eight =
+    rw (one, two, three, four, five, six, seven, eight) (ap cut_row (sym (records_sums records tally)))
+
+-- the sums of a run were added to a row whose codes were counted
+run_counted : (records : List RecordMark) (old : BlockRow) (plain abbreviated values : ℕ) (codes : List (ℕ × CodeRow)) → plain ≡ saturated (plain_in records) → abbreviated ≡ saturated (abbreviated_in records) → values ≡ values_of records
+    → ((tallies : List CodeTally) → code_tallies old.codes ≡ map cut_code tallies → code_tallies codes ≡ map cut_code (with_uses records tallies)) → CountsInRow old records (with_run plain abbreviated values (record old { codes = codes }))
+run_counted records old plain abbreviated values codes plain_is abbreviated_is values_are used id tally shown =
+    let old_records : old.records ≡ saturated tally.records = ap (λ (x : BlockTally). x.records) shown in
+    let old_abbreviated : old.abbreviated ≡ saturated tally.abbreviated = ap (λ (x : BlockTally). x.abbreviated) shown in
+    let old_values : old.values ≡ saturated tally.values = ap (λ (x : BlockTally). x.values) shown in
+    let five : saturated (old.records + saturated (plain + abbreviated)) ≡ saturated (tally.records + length records) = omega (arith, old_records, plain_is, abbreviated_is, all_records records) in
+    let six : saturated (old.abbreviated + abbreviated) ≡ saturated (tally.abbreviated + abbreviated_in records) = omega (arith, old_abbreviated, abbreviated_is) in
+    let seven : saturated (old.values + values) ≡ saturated (tally.values + values_of records) = omega (arith, old_values, values_are) in
+    shown_sums records tally id old.blocks old.bits old.definitions _ _ _ (code_tallies codes) (ap (λ (x : BlockTally). x.id) shown) (ap (λ (x : BlockTally). x.blocks) shown) (ap (λ (x : BlockTally). x.bits) shown) (ap (λ (x : BlockTally). x.definitions) shown) five six seven
+    (used tally.codes (ap (λ (x : BlockTally). x.codes) shown))
+
+-- the same for a row that is what the reference left behind
+pub row_counted : (records : List RecordMark) (first last : RowCounter) (room spare : ℕ) (new : MutBor BlockRow) (left : BlockRow) → CountsBehind first records last → first.plain ≡ 0 → first.abbreviated ≡ 0 → spare + values_of records ≡ room
+    → new.ghost_name ≡ last.row.ghost_name → new.now ≡ with_run last.plain last.abbreviated (room - spare) last.row.now → (first.row.ghost_name ≡ new.ghost_name → left ≡ new.now) → CountsInRow first.row.now records left
+row_counted records first last room spare new left counted no_plain no_abbreviated fits same added is =
+    let plain_is : last.plain ≡ saturated (plain_in records) = omega (arith, counted.plain, no_plain) in
+    let abbreviated_is : last.abbreviated ≡ saturated (abbreviated_in records) = omega (arith, counted.abbreviated, no_abbreviated) in
+    let many : room - spare ≡ values_of records = omega (arith, fits) in
+    let whole : left ≡ with_run last.plain last.abbreviated (room - spare) (with_codes last.row.now.codes first.row.now) = is (sym (same ∙ counted.same)) ∙ added ∙ ap (with_run last.plain last.abbreviated (room - spare)) counted.row in
+    subst (λ (row : BlockRow). CountsInRow first.row.now records row) (sym whole) (run_counted records first.row.now last.plain last.abbreviated (room - spare) last.row.now.codes plain_is abbreviated_is many counted.codes)
 
 -- ---- rows
 

@@ -1,14 +1,16 @@
 -- The view of the rows of an analysis.
-use Rattle.std.specs.Prelude.{◌≡◌, ℕ, List, [], ◌∷◌, map, Result, OnOk}
-use Rattle.std.specs.Borrow.{MutBor}
+use Rattle.std.specs.Prelude.{◌≡◌, ℕ, ◌+◌, if◌then◌else◌, List, [], ◌∷◌, map, sum_by, Result, OnOk}
 use Rattle.bit_grammar.specs.Marks.{RecordMark}
-use Rattle.bit_grammar.specs.Tally.{BlockTally}
+use Rattle.bit_grammar.specs.Bits.{saturated}
+use Rattle.bit_grammar.specs.Tally.{CodeTally, BlockTally, record_bits, is_abbreviated}
 use Rattle.bit_grammar.specs.Counting.{one_record, with_row}
 use Rattle.bit_scan.specs.Additions.{with_added}
-use Rattle.bit_scan.specs.CodesView.{code_tallies}
-use Rattle.bit_scan.specs.Cut.{cut_row, cut_rows}
+use Rattle.bit_scan.specs.CodesView.{code_tallies, with_use}
+use Rattle.bit_scan.specs.Cut.{cut_code, cut_row, cut_rows}
 use Rattle.bit_scan.specs.declared.rows.Addition.{Addition}
 use Rattle.bit_scan.specs.declared.rows.BlockRow.{BlockRow}
+use Rattle.bit_scan.specs.declared.rows.CodeRow.{CodeRow}
+use Rattle.bit_scan.specs.declared.rows.RowCounter.{RowCounter}
 
 -- a block id and its row
 abbrev pub block_tally : ℕ × BlockRow → BlockTally
@@ -43,10 +45,39 @@ abbrev pub CountsInRow : BlockRow → List RecordMark → BlockRow → Type 0
 CountsInRow old records new = (id : ℕ) (tally : BlockTally) → block_tally (id, old) ≡ cut_row tally
     → block_tally (id, new) ≡ cut_row (with_records records tally)
 
--- the same reference, to a row with these records more
-pub record CountsBehind (old : MutBor BlockRow) (records : List RecordMark) (new : MutBor BlockRow) : Type 0 where
-  pub same : new.ghost_name ≡ old.ghost_name
-  pub counts : CountsInRow old.now records new.now
+-- the rows of codes with these records more
+abbrev pub with_uses : List RecordMark → List CodeTally → List CodeTally
+with_uses [] codes = codes
+with_uses (mark ∷ records) codes = with_uses records (with_use mark.code (record_bits mark) codes)
+
+-- how many records use a definition
+abbrev pub abbreviated_in : List RecordMark → ℕ
+abbreviated_in records = sum_by (λ mark. if is_abbreviated mark then 1 else 0) records
+
+-- how many records use none
+abbrev pub plain_in : List RecordMark → ℕ
+plain_in records = sum_by (λ mark. if is_abbreviated mark then 0 else 1) records
+
+-- a row with these codes
+abbrev pub with_codes : List (ℕ × CodeRow) → BlockRow → BlockRow
+with_codes codes row = record row { codes = codes }
+
+-- a row with the sums of a run of records
+abbrev pub with_run : (plain abbreviated values : ℕ) → BlockRow → BlockRow
+with_run plain abbreviated values row = record row {
+  records = saturated (row.records + saturated (plain + abbreviated));
+  abbreviated = saturated (row.abbreviated + abbreviated);
+  values = saturated (row.values + values);
+}
+
+-- The same reference, to a row whose codes have these records more, and the sums of the records.
+pub record CountsBehind (old : RowCounter) (records : List RecordMark) (new : RowCounter) : Type 0 where
+  pub same : new.row.ghost_name ≡ old.row.ghost_name
+  pub row : new.row.now ≡ with_codes new.row.now.codes old.row.now
+  pub codes : (tallies : List CodeTally) → code_tallies old.row.now.codes ≡ map cut_code tallies
+      → code_tallies new.row.now.codes ≡ map cut_code (with_uses records tallies)
+  pub plain : new.plain ≡ saturated (old.plain + plain_in records)
+  pub abbreviated : new.abbreviated ≡ saturated (old.abbreviated + abbreviated_in records)
 
 -- the rows after these records of a block with this id
 abbrev pub rows_after : List RecordMark → (id : ℕ) → List BlockTally → List BlockTally

@@ -74,7 +74,7 @@ impl Counter {
             → self.old ≡ capped_counts counts
             → OnOk result (self.new ≡ capped_counts (count_event (enters opened) counts)) }
     {
-        let place = self.rows.add_by_id(id, Addition::Block)?;
+        let place = self.rows.begin(id)?;
         self.open.push(CountedBlock {
             id,
             place,

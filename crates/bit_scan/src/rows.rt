@@ -1,4 +1,4 @@
-ghost use Rattle.std.specs.Prelude.{◌≡◌, ◌<◌, ◌≤◌, ◌++◌, ◌∷◌, ℕ, map, length, slice_get, List, [], Some, OnOk, IfOk};
+ghost use Rattle.std.specs.Prelude.{◌≡◌, ◌+◌, ◌<◌, ◌≤◌, ◌++◌, ◌∷◌, ℕ, map, min, nat_le, if◌then◌else◌, length, slice_get, List, [], Some, OnOk, IfOk};
 ghost use Rattle.std.specs.Map.{keys_of};
 ghost use Rattle.bit_scan.specs.Indexed.{AreDistinct, IsFree, IsIndexed};
 ghost use Rattle.bit_grammar.specs.Tally.{CodeTally, BlockTally};
@@ -11,7 +11,8 @@ ghost use Rattle.bit_grammar.specs.declared.op.Op.{Op};
 ghost use Rattle.bit_fields.specs.PlacedView.{placed};
 ghost use Rattle.bit_abbrev.specs.Plans.{ArePlans};
 ghost use Rattle.bit_events.specs.Passing.{PassesRecords};
-ghost use Rattle.bit_scan.specs.Rows.{block_tally, block_tallies, rows_after, AddsToRow, CountsInRow};
+ghost use Rattle.bit_scan.specs.declared.rows.Addition.TheVariants as addition;
+ghost use Rattle.bit_scan.specs.Rows.{block_tally, block_tallies, rows_after, with_codes, with_run, AddsToRow, CountsInRow};
 
 use crate::links::{Keyed, Spot, find, is_at, lead};
 use bit_abbrev::{InForce, Plan};
@@ -27,6 +28,38 @@ pub struct CodeRow {
     pub count: u64,
     /// Their bits, from the first of the abbreviation id to the last, the padding of a blob included.
     pub bits: u64,
+}
+
+/// Makes a sum the greatest number.
+#[cold]
+#[inline(never)]
+fn fill(sum: &mut u64)
+    ensures { sum.new ≡ 18446744073709551615 }
+{
+    *sum = u64::MAX;
+}
+
+/// Adds to a sum, which saturates at the greatest number. That is a call, so that other additions are made in place.
+#[inline(always)]
+fn add_to(sum: &mut u64, more: u64)
+    ensures { sum.new ≡ min (sum.old + more) 18446744073709551615 }
+{
+    *sum = sum.wrapping_add(more);
+    if *sum < more {
+        fill(sum);
+    }
+}
+
+impl CodeRow {
+    /// Counts one more record.
+    #[inline(always)]
+    fn add(&mut self, bits: u64)
+        ensures count { self.new.count ≡ min (self.old.count + 1) 18446744073709551615 }
+        ensures bits { self.new.bits ≡ min (self.old.bits + bits) 18446744073709551615 }
+    {
+        add_to(&mut self.count, 1);
+        add_to(&mut self.bits, bits);
+    }
 }
 
 impl Keyed for (u64, CodeRow) {
@@ -88,8 +121,7 @@ fn count_at(rows: &mut [(u64, CodeRow)], place: usize, bits: u64)
         → code_tallies rows.new ≡ map cut_code (with_use code bits tallies) }
 {
     let (_, row) = &mut rows[place];
-    row.count = row.count.saturating_add(1);
-    row.bits = row.bits.saturating_add(bits);
+    row.add(bits);
 }
 
 /// Begins the row of a code that has none, at the end, with one record, and returns its place.
@@ -267,27 +299,63 @@ impl BlockRow {
     }
 }
 
-/// Counts the records of a block in its row.
+/// Counts one more record by whether it is abbreviated.
+#[inline(always)]
+fn add_kind(plain: &mut u64, abbreviated: &mut u64, id: u64)
+    ensures plain { plain.new ≡ min (plain.old + (if nat_le 4 id then 0 else 1)) 18446744073709551615 }
+    ensures abbreviated { abbreviated.new
+        ≡ min (abbreviated.old + (if nat_le 4 id then 1 else 0)) 18446744073709551615 }
+{
+    let (_plain, _abbreviated) = (*plain, *abbreviated);
+    if id >= 4 {
+        add_to(abbreviated, 1);
+        return;
+    }
+    add_to(plain, 1);
+}
+
+impl BlockRow {
+    /// Counts one more record in the row of its code.
+    #[inline(always)]
+    fn add_code(&mut self, places: &mut CodePlaces, code: u64, bits: u64) -> Result<(), AllocError>
+        ensures row { self.new ≡ with_codes self.new.codes self.old }
+        ensures codes { CountsUse code bits self.old.codes result self.new.codes }
+    {
+        self.codes
+            .add(&mut places[(code % 64) as usize], code, bits)
+    }
+
+    /// Adds the sums of a run of records, which are in the rows of their codes already.
+    #[inline(always)]
+    fn add_run(&mut self, plain: u64, abbreviated: u64, values: u64)
+        ensures { self.new ≡ with_run plain abbreviated values self.old }
+    {
+        let records = plain.saturating_add(abbreviated);
+        self.records = self.records.saturating_add(records);
+        self.abbreviated = self.abbreviated.saturating_add(abbreviated);
+        self.values = self.values.saturating_add(values);
+    }
+}
+
+/// Counts the records of a run in the rows of their codes, and the others of their sums apart.
 #[derive(Drop)]
 struct RowCounter<'a> {
     row: &'a mut BlockRow,
     places: &'a mut CodePlaces,
+    plain: u64,
+    abbreviated: u64,
 }
 
 impl<'a> RunCounter for RowCounter<'a> {
     ghost use Rattle.bit_scan.specs.Rows.{CountsBehind};
 
-    ghost counted = { λ first records last. CountsBehind first.row records last.row };
+    ghost counted = { λ first records last. CountsBehind first records last };
 
     #[inline(always)]
     fn count(&mut self, passed: CountedRecord) -> Result<bool, AllocError> {
-        let addition = Addition::Record {
-            code: passed.code,
-            abbreviated: passed.id >= 4,
-            values: passed.count,
-            bits: passed.after - passed.first,
-        };
-        self.row.add(self.places, addition)?;
+        add_kind(&mut self.plain, &mut self.abbreviated, passed.id);
+        let bits = passed.after - passed.first;
+        self.row.add_code(self.places, passed.code, bits)?;
         Ok(true)
     }
 }
@@ -310,8 +378,20 @@ impl BlockRow {
             × CountsInRow self.old records self.new
             × PassesRecords width definitions.now.all room (placed bits.entry) records run) }
     {
-        let mut counter = RowCounter { row: self, places };
-        pass_records(bits, width, plans, definitions, room, &mut counter)
+        let mut counter = RowCounter {
+            row: self,
+            places,
+            plain: 0,
+            abbreviated: 0,
+        };
+        match pass_records(bits, width, plans, definitions, room, &mut counter) {
+            Ok(run) => {
+                let (plain, abbreviated) = (counter.plain, counter.abbreviated);
+                counter.row.add_run(plain, abbreviated, room - run.room);
+                Ok(run)
+            }
+            Err(error) => Err(error),
+        }
     }
 }
 
@@ -412,6 +492,8 @@ pub(crate) struct BlockRows {
     rows: Vec<(u32, BlockRow)>,
     links: Vec<u32>,
     places: Places,
+    /// Caches, by the low bits of an id, the place of the row that was found last for a block that begins.
+    found: [u32; 32],
 }
 
 impl Model for BlockRows {
@@ -438,12 +520,13 @@ impl BlockRows {
             rows: Vec::new(alloc),
             links: Vec::new(alloc),
             places: [[0; 64]; 32],
+            found: [0; 32],
         }
     }
 
     /// Counts what an event adds to the row of an id and returns the row's place. If there is no row, a new one is added at the
     /// end.
-    pub(crate) fn add_by_id(&mut self, id: u32, addition: Addition) -> Result<usize, AllocError>
+    fn add_by_id(&mut self, id: u32, addition: Addition) -> Result<usize, AllocError>
         ensures { AddsToRow addition id self.old result self.new }
     {
         match find(&self.rows, &self.links, u64::from(id)) {
@@ -474,6 +557,30 @@ impl BlockRows {
         }
         self.add_by_id(id, addition)?;
         Ok(())
+    }
+
+    /// Counts a block that begins and returns the place of its row, which is looked up and cached.
+    #[cold]
+    #[inline(never)]
+    fn begin_by_id(&mut self, id: u32) -> Result<usize, AllocError>
+        ensures { AddsToRow addition.Block id self.old result self.new }
+    {
+        let place = self.add_by_id(id, Addition::Block)?;
+        self.found[(id % 32) as usize] = u32::try_from(place).unwrap_or(0);
+        Ok(place)
+    }
+
+    /// Counts a block that begins and returns the place of its row, which may be cached.
+    #[inline(always)]
+    pub(crate) fn begin(&mut self, id: u32) -> Result<usize, AllocError>
+        ensures { AddsToRow addition.Block id self.old result self.new }
+    {
+        let likely = self.found[(id % 32) as usize] as usize;
+        if !is_at(&self.rows, likely, u64::from(id)) {
+            return self.begin_by_id(id);
+        }
+        add_at(&mut self.rows, &mut self.places, likely, Addition::Block)?;
+        Ok(likely)
     }
 
     /// Passes over records of a block with an id and counts them in its row, if that is at the place.

@@ -9,11 +9,11 @@ pub returns-clause-keys : goal.returns-clause-keys
 returns-clause-keys c =
     let none : CodeRow = record { count = 0; bits = 0 } in
     let e = slice_index_or {A = ℕ × CodeRow} c.args.rows.now c.args.place (0, none) in
-    keys_set c.args.rows.now c.args.place e.0 e.1 (record { count = c.saturating_add-row.result; bits = c.saturating_add-row-2.result }) (slice_get-get_or c.args.rows.now c.args.place (0, none) c.requires)
+    keys_set c.args.rows.now c.args.place e.0 e.1 c.add.new.self (slice_get-get_or c.args.rows.now c.args.place (0, none) c.requires)
 
 pub returns-clause-counts : goal.returns-clause-counts
 returns-clause-counts c code tallies distinct at shown =
     let none : CodeRow = record { count = 0; bits = 0 } in
     let e = slice_index_or {A = ℕ × CodeRow} c.args.rows.now c.args.place (0, none) in
-    use_at c.args.rows.now tallies code e.0 c.args.bits c.args.place e.1 (record { count = c.saturating_add-row.result; bits = c.saturating_add-row-2.result }) c.saturating_add-row.ensures c.saturating_add-row-2.ensures distinct
+    use_at c.args.rows.now tallies code e.0 c.args.bits c.args.place e.1 c.add.new.self c.add.ensures.count c.add.ensures.bits distinct
     (slice_get-get_or c.args.rows.now c.args.place (0, none) c.requires) at shown
