@@ -61,7 +61,7 @@ fn same(passed: Passed, code: u64, values: &ValueCount, len: u64) -> bool {
 
 /// The operands of some definitions: fields of each kind, numbers that share a pass and numbers that do not, and arrays of each
 /// element.
-static DEFINITIONS: [&[Op]; 10] = [
+static DEFINITIONS: [&[Op]; 11] = [
     &[
         Op::Literal(3),
         Op::Literal(9),
@@ -101,6 +101,13 @@ static DEFINITIONS: [&[Op]; 10] = [
     &[Op::Literal(10), Op::Vbr(4), Op::Array, Op::Fixed(32)],
     &[Op::Literal(11), Op::Array, Op::Vbr(8)],
     &[Op::Literal(12), Op::Vbr(13), Op::Array, Op::Vbr(3)],
+    &[
+        Op::Literal(20),
+        Op::Vbr(6),
+        Op::Fixed(7),
+        Op::Vbr(4),
+        Op::Fixed(1),
+    ],
 ];
 
 /// The definitions in force in a block for which one is described, with plans.
