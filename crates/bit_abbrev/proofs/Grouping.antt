@@ -128,5 +128,5 @@ newest_new groups id ops =
     let at : slice_get all (length groups) ≡ Some new = slice_get-get_or all (length groups) new (omega (arith, one)) ∙ ap Some (get_or_push groups new new (length groups) refl) in
     rw (at_place all (length groups) new at) refl
 
-pub last_behind : {old new : List (ℕ × List Op)} (id : ℕ) (ops : List Op) → new ≡ old ++ (id, ops) ∷ [] → last_one (all_of new) ≡ Some ops
-last_behind {old} id ops is = rw (is, all_and_one old id ops) (last_more (all_of old) ops)
+pub last_behind : {new : List (ℕ × List Op)} (old : List (ℕ × List Op)) (id : ℕ) (ops : List Op) → new ≡ old ++ (id, ops) ∷ [] → last_one (all_of new) ≡ Some ops
+last_behind old id ops is = rw (is, all_and_one old id ops) (last_more (all_of old) ops)

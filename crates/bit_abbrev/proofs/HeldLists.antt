@@ -62,12 +62,12 @@ defined (e ∷ list) id ops other = by (nat_eq other e.0) (defined list id ops o
 
 -- ---- one more, whose operands stand behind all others
 
-pub closed_held : {all mid new : List HeldOp} {heads more : List Head} {ops : List Op} (head : Head) → head.start ≡ length all → Holds all mid ops → new ≡ mid ++ End ∷ [] → more ≡ heads ++ head ∷ [] → Definable ops → AreHeld all heads → AreHeld new more
-closed_held head begins holds ends is definable are =
+pub closed_held : {all mid new : List HeldOp} {more : List Head} {ops : List Op} (heads : List Head) (head : Head) → head.start ≡ length all → Holds all mid ops → new ≡ mid ++ End ∷ [] → more ≡ heads ++ head ∷ [] → Definable ops → AreHeld all heads → AreHeld new more
+closed_held heads head begins holds ends is definable are =
     rw is (and_one _ _ head (all_in_more _ _ _ (extended _ holds.more_held ends) are) (added_held head begins holds ends definable))
 
-pub closed_shown : {all mid new : List HeldOp} {heads more : List Head} {ops : List Op} (head : Head) → head.start ≡ length all → Holds all mid ops → new ≡ mid ++ End ∷ [] → more ≡ heads ++ head ∷ [] → AreHeld all heads → held_shown new more ≡ held_shown all heads ++ (head.id, ops) ∷ []
-closed_shown {all} {mid} {new} {heads} head begins holds ends is are =
+pub closed_shown : {all mid new : List HeldOp} {more : List Head} {ops : List Op} (heads : List Head) (head : Head) → head.start ≡ length all → Holds all mid ops → new ≡ mid ++ End ∷ [] → more ≡ heads ++ head ∷ [] → AreHeld all heads → held_shown new more ≡ held_shown all heads ++ (head.id, ops) ∷ []
+closed_shown {all} {mid} {new} heads head begins holds ends is are =
     rw (is, shown_and_one new heads head, same_shown all new heads (extended _ holds.more_held ends) are, added_ops head begins holds ends) refl
 
 -- or none more

@@ -1,5 +1,5 @@
 -- Reading the operands of a definition, one after another.
-use Rattle.std.proofs.Common.{◌≡◌, ℕ, zero, suc, ◌+◌, ◌-◌, ◌<◌, ◌≤◌, Bool, true, not, ◌==◌, List, [], ◌∷◌, ◌++◌, length, Result, Ok, Err, refl, sym, ap, subst, arith, append_assoc}
+use Rattle.std.proofs.Common.{◌≡◌, ℕ, zero, suc, ◌+◌, ◌-◌, ◌<◌, ◌≤◌, Bool, true, not, ◌==◌, List, [], ◌∷◌, ◌++◌, length, Result, Ok, Err, refl, sym, ap, subst, arith, append_assoc, ◌∙◌}
 use Rattle.std.proofs.lemmas.List.{append-nil, length-append}
 use Rattle.std.proofs.lemmas.Bool.{lt-ltb, ne_eqb}
 use Rattle.std.specs.Prelude.{nat_lt}
@@ -94,7 +94,7 @@ uncounted shapes a fault b why = from_here (numbered shapes) a (Err fault) b (fa
 
 none_or_some : (count : ℕ) → not (count == 0) ≡ nat_lt 0 count
 none_or_some zero = refl
-none_or_some (suc n) = refl
+none_or_some (suc n) = ap not (ne_eqb (suc n) 0 (λ e. absurd (omega (arith, e)))) ∙ sym (lt-ltb 0 (suc n) (omega arith))
 
 -- no operands
 pub empty : (shapes : Shapes) (a : Reader) (count : ℕ) (b : Reader) (first_bit : ℕ) (fault : Fault) (c : Reader) → first_bit ≡ a.position → Took (vbr 5) a count b → Why (test (not (count == 0)) (at AbbrevEmpty first_bit)) b fault c → Why (definition shapes) a fault c

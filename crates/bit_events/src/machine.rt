@@ -772,11 +772,7 @@ impl Machine {
 impl Step {
     /// The event, with these values and the definition that the machine holds.
     #[inline(always)]
-    pub(crate) fn event<'a, L: Drop>(
-        &self,
-        machine: &'a Machine,
-        values: L,
-    ) -> Option<Event<'a, L>>
+    pub(crate) fn event<'a, L: Drop>(&self, machine: &'a Machine, values: L) -> Option<Event<'a, L>>
         ensures { (told : L → List ℕ) → shown_if_any told result
             ≡ step_lent machine.now (told values) self.now }
     {

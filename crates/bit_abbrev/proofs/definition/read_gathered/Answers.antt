@@ -7,8 +7,8 @@ use Rattle.bit_grammar.specs.FormatDefinition.{Definable}
 use Rattle.bit_fields.specs.Reader.{Took}
 use Rattle.bit_abbrev.proofs.definition.read_gathered.Goals as goal
 
-pub read_operands-requires-none : goal.read_operands-requires-none
-read_operands-requires-none g c = sym (append-nil _)
+pub read_operands-requires-clause-none : goal.read_operands-requires-clause-none
+read_operands-requires-clause-none g c = sym (append-nil _)
 
 pub returns-in_err-read_operands-clause-takes : goal.returns-in_err-read_operands-clause-takes
 returns-in_err-read_operands-clause-takes g c =

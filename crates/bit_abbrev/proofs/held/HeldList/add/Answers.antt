@@ -26,11 +26,11 @@ pub invariant_of-self-2 : goal.invariant_of-self-2
 invariant_of-self-2 c =
     let head : Head = record { id = c.args.id; start = c.len-start.result } in
     let begins : head.start ≡ length c.self.inside.held.items = search rules in
-    closed_held head begins c.in_ok-hold.ensures.ok c.in_ok-close.ensures.held c.in_ok-close.ensures.heads (subst Definable (sym c.ops.ensures.items) c.ops.ensures.definable) c.self.invariant
+    closed_held _ head begins c.in_ok-hold.ensures.ok c.in_ok-close.ensures.held c.in_ok-close.ensures.heads (subst Definable (sym c.ops.ensures.items) c.ops.ensures.definable) c.self.invariant
 
 pub returns-clause-ok : goal.returns-clause-ok
 returns-clause-ok c =
     let head : Head = record { id = c.args.id; start = c.len-start.result } in
     let begins : head.start ≡ length c.self.inside.held.items = search rules in
-    closed_shown head begins c.in_ok-hold.ensures.ok c.in_ok-close.ensures.held c.in_ok-close.ensures.heads c.self.invariant
+    closed_shown _ head begins c.in_ok-hold.ensures.ok c.in_ok-close.ensures.held c.in_ok-close.ensures.heads c.self.invariant
     ∙ rw c.ops.ensures.items (ap (λ (l : List (ℕ × List Op)). l ++ (c.args.id, c.args.«abbrev».now) ∷ []) c.self.view_is)

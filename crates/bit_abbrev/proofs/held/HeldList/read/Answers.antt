@@ -20,11 +20,11 @@ invariant_of-self-2 g c =
     let read = c.in_ok-read_operands.ensures in
     let head : Head = record { id = c.args.id; start = c.len-start.result } in
     let begins : head.start ≡ length c.self.inside.held.items = search rules in
-    closed_held head begins read.1 c.in-Ok.ensures.held c.in-Ok.ensures.heads read.2.0 c.self.invariant
+    closed_held _ head begins read.1 c.in-Ok.ensures.held c.in-Ok.ensures.heads read.2.0 c.self.invariant
 
 pub returns : goal.returns
 returns g c =
     let read = c.in_ok-read_operands.ensures in
     let head : Head = record { id = c.args.id; start = c.len-start.result } in
     let begins : head.start ≡ length c.self.inside.held.items = search rules in
-    (read.0, read.2.1, closed_shown head begins read.1 c.in-Ok.ensures.held c.in-Ok.ensures.heads c.self.invariant ∙ ap (λ (l : List (ℕ × List Op)). l ++ (c.args.id, read.0) ∷ []) c.self.view_is)
+    (read.0, read.2.1, closed_shown _ head begins read.1 c.in-Ok.ensures.held c.in-Ok.ensures.heads c.self.invariant ∙ ap (λ (l : List (ℕ × List Op)). l ++ (c.args.id, read.0) ∷ []) c.self.view_is)
