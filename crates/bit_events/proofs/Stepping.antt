@@ -2,6 +2,7 @@
 use Rattle.std.proofs.Common.{◌≡◌, ℕ, zero, suc, ◌+◌, ◌<◌, ◌≤◌, Bool, true, false, not, is_some, eqb, ltb, List, [], ◌∷◌, ◌++◌, length, get_or, take, set, Option, Some, None, Result, Ok, Err, IsSome, is_none, refl, sym, ap, ◌∙◌, subst, arith}
 use Rattle.std.specs.Prelude.{unwrap_or, IfOk, OnOk}
 use Rattle.std.proofs.lemmas.Bool.{ne_eqb}
+use Rattle.std.specs.declared.alloc.AllocError.{AllocError}
 use Rattle.bit_grammar.specs.declared.shapes.Shapes.{Shapes}
 use Rattle.bit_grammar.specs.declared.op.Op.{Op}
 use Rattle.bit_grammar.specs.declared.reason.Reason.TheVariants.{TooDeep, TopLevel, NestedInBlockInfo}
@@ -220,8 +221,9 @@ pub ready_is : (frames : List Frame) (k : ℕ) (f : Frame) (found : Option (List
 ready_is frames k f found n is same = same ∙ sym (lent-last None frames k f n is)
 
 -- one that was made
-pub made_is : (made : Option (List Op)) (frames : List Frame) (k : ℕ) (f : Frame) → length frames ≡ suc k → f ≡ get_or frames k f → either made (ready_in f) ≡ newest_in f → lent made frames ≡ newest frames
-made_is made frames k f n is same = lent-last made frames k f n is ∙ same ∙ sym (newest-last frames k f n is)
+pub made_is : (frames : List Frame) (k : ℕ) (f : Frame) (result : Result (Option (List Op)) AllocError) → length frames ≡ suc k → f ≡ get_or frames k f → IfOk result (λ made. either made (ready_in f) ≡ newest_in f) → IfOk result (λ made. lent made frames ≡ newest frames)
+made_is frames k f (Ok made) n is same = lent-last made frames k f n is ∙ same ∙ sym (newest-last frames k f n is)
+made_is frames k f (Err e) n is same = tt
 
 -- what was made is lent
 pub some_lent : (ops : List Op) (frames : List Frame) → Some ops ≡ lent (Some ops) frames

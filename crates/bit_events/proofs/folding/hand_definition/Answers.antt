@@ -1,6 +1,6 @@
-use Rattle.std.proofs.Common.{◌≡◌, ◌∙◌, List, [], Option, Some, None, IsSome, inl, inr, sym, subst}
+use Rattle.std.proofs.Common.{◌≡◌, ◌∙◌, List, [], Option, None, IsSome, inl, inr, sym, subst}
 use Rattle.std.specs.Prelude.{unwrap_or}
-use Rattle.std.proofs.lemmas.Result.{err_from_is_err_and, on_err_weaker}
+use Rattle.std.proofs.lemmas.Result.{err_from_is_err_and}
 use Rattle.bit_grammar.specs.declared.op.Op.{Op}
 use Rattle.bit_events.specs.MachineView.{newest}
 use Rattle.bit_events.proofs.folding.hand_definition.Goals as goal
@@ -21,17 +21,5 @@ returns-in_err-made-clause-fails g c =
 pub unreachable-requires : goal.unreachable-requires
 unreachable-requires g c =
     let none : None ≡ newest c.args.machine.now.frames.items = c.in-None.ensures ∙ c.in_ok-made.ensures in
-    let some : IsSome {A = List Op} None = subst (λ (o : Option (List Op)). IsSome o) (sym none) c.requires in
+    let some = subst (λ (o : Option (List Op)). IsSome o) (sym none) c.requires in
     cc
-
-pub returns-in-Some-clause-gathers : goal.returns-in-Some-clause-gathers
-returns-in-Some-clause-gathers g c =
-    let held : newest c.args.machine.now.frames.items ≡ Some c.in-Some.abbrev.now = sym (c.in-Some.ensures ∙ c.in_ok-made.ensures) in
-    let same = c.in_ok-taken.ensures.declines c.if-taken.false in
-    rw (held, ← same) c.define.ensures.gathers
-
-pub returns-in-Some-clause-fails : goal.returns-in-Some-clause-fails
-returns-in-Some-clause-fails g c =
-    let held : newest c.args.machine.now.frames.items ≡ Some c.in-Some.abbrev.now = sym (c.in-Some.ensures ∙ c.in_ok-made.ensures) in
-    let same = c.in_ok-taken.ensures.declines c.if-taken.false in
-    rw (held, ← same) (on_err_weaker c.define.result inr c.define.ensures.fails)

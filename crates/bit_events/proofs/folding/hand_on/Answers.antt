@@ -1,10 +1,10 @@
-use Rattle.std.proofs.Common.{ℕ, List, inr}
+use Rattle.std.proofs.Common.{ℕ, List, inr, refl}
 use Rattle.std.proofs.lemmas.Result.{on_err_weaker}
 use Rattle.bit_events.proofs.Folds.{for_each, lost_each}
 use Rattle.bit_events.proofs.folding.hand_on.Goals as goal
 
 pub hand_definition-requires : goal.hand_definition-requires
-hand_definition-requires g c = rw (rw c.in-Define.is at c.requires.holds) tt
+hand_definition-requires g c = rw (rw c.in-Define.is at c.requires.holds) refl
 
 pub returns-in-Enter-clause-gathers : goal.returns-in-Enter-clause-gathers
 returns-in-Enter-clause-gathers g c = rw c.in-Enter.is (for_each _ (λ (list : List ℕ). g.G.Values.ValueTaker.took c.args.values.now list) c.enter.result c.enter.ensures.gathers)

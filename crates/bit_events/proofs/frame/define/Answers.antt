@@ -32,4 +32,4 @@ returns-clause-takes g c = λ handed.
     define_took c.args.shapes c.args.first (scope_of (frame_shown c.args.frame.now) handed) c.args.reader.now c.judge.new.self read.0 c.read.new.reader c.read.new.reader c.position.result (unwrap_or (newest_in c.read.new.self) []) (scope_of (frame_shown c.read.new.self) handed) judged (c.in_ok-count.ensures.takes c.args.shapes (Ok read.0) c.read.new.reader read.1) refl c.position.ensures.position (ap (λ (o : Option (List Op)). unwrap_or o []) read.2.last) (read.2.made handed)
 
 pub returns-clause-newest : goal.returns-clause-newest
-returns-clause-newest g c = rw c.in_ok-read.ensures.reads.2.last tt
+returns-clause-newest g c = rw c.in_ok-read.ensures.reads.2.last refl
