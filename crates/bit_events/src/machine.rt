@@ -707,7 +707,6 @@ impl Machine {
     }
 
     /// The last definition that the innermost block made, made anew, if there is one and it is not ready.
-    #[tactic(auto, using(crate::proofs::Stepping::made_is))]
     pub(crate) fn newest_made(&self) -> Result<Option<Abbrev>, AllocError>
         ensures { IfOk result (λ made. lent made self.now.frames.items ≡ newest self.now.frames.items) }
     {

@@ -1,4 +1,4 @@
-use Rattle.std.proofs.Common.{◌≡◌, ◌∙◌, List, [], Option, None, IsSome, inl, inr, sym, subst}
+use Rattle.std.proofs.Common.{◌≡◌, ◌∙◌, List, [], Option, Some, None, IsSome, inl, inr, sym, subst}
 use Rattle.std.specs.Prelude.{unwrap_or}
 use Rattle.std.proofs.lemmas.Result.{err_from_is_err_and}
 use Rattle.bit_grammar.specs.declared.op.Op.{Op}
@@ -23,3 +23,9 @@ unreachable-requires g c =
     let none : None ≡ newest c.args.machine.now.frames.items = c.in-None.ensures ∙ c.in_ok-made.ensures in
     let some = subst (λ (o : Option (List Op)). IsSome o) (sym none) c.requires in
     cc
+
+pub returns-clause-gathers : goal.returns-clause-gathers
+returns-clause-gathers g c =
+    let held : newest c.args.machine.now.frames.items ≡ Some c.in-Some.abbrev.now = sym (c.in-Some.ensures ∙ c.in_ok-made.ensures) in
+    let same = c.in_ok-taken.ensures.declines c.if-taken.false in
+    rw (held, ← same) c.define.ensures.gathers
