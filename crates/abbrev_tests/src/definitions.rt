@@ -244,7 +244,7 @@ fn in_force(definitions: &InForce) -> ([u64; 9], u64) {
     for (index, value) in values.iter_mut().enumerate() {
         *value = literal(definitions.get(index));
     }
-    (values, literal(definitions.newest()))
+    (values, literal(definitions.newest_ready()))
 }
 
 /// Adds a definition to a table.

@@ -76,7 +76,8 @@ fn many_told(alloc: Global, id: u32) -> Result<(bool, [bool; 7], u64, u64), Fail
     let found = are_in_order(&definitions, id)?;
     let ready = ready_at(&definitions);
     let behind = literal_at(&definitions, 2 * MADE as usize)?;
-    Ok((found, ready, literal(definitions.newest()), behind))
+    let made = definitions.newest_made()?;
+    Ok((found, ready, literal(made.as_ref()), behind))
 }
 
 static READY: [bool; 7] = [true, true, false, false, true, true, false];

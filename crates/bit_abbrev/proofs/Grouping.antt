@@ -10,7 +10,9 @@ use Rattle.bit_grammar.specs.Terms.{defined_at}
 use Rattle.bit_abbrev.specs.declared.plan.Plan.{Plan}
 use Rattle.bit_abbrev.specs.Groups.{AreFirst, IsPlaceOf, ready_at, ready_for}
 use Rattle.bit_abbrev.specs.Plans.{ArePlans, IsPlan}
+use Rattle.bit_abbrev.specs.HeldLists.{all_of}
 use Rattle.bit_abbrev.specs.Ready.{last_one}
+use Rattle.bit_abbrev.proofs.HeldLists.{all_and_one}
 
 -- ---- definitions of one id
 
@@ -125,3 +127,6 @@ newest_new groups id ops =
     let one : length all ≡ length groups + 1 = length-append groups (new ∷ []) in
     let at : slice_get all (length groups) ≡ Some new = slice_get-get_or all (length groups) new (omega (arith, one)) ∙ ap Some (get_or_push groups new new (length groups) refl) in
     rw (at_place all (length groups) new at) refl
+
+pub last_behind : {new : List (ℕ × List Op)} (old : List (ℕ × List Op)) (id : ℕ) (ops : List Op) → new ≡ old ++ (id, ops) ∷ [] → last_one (all_of new) ≡ Some ops
+last_behind old id ops is = rw (is, all_and_one old id ops) (last_more (all_of old) ops)

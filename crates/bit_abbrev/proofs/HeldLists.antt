@@ -9,8 +9,11 @@ use Rattle.bit_abbrev.specs.declared.held.Run.{Run}
 use Rattle.bit_abbrev.specs.declared.held_op.HeldOp.{HeldOp}
 use Rattle.bit_abbrev.specs.Heads.{ops_of, AreHeld, all_held}
 use Rattle.bit_abbrev.specs.HeldLists.{all_of, held_for, heads_at, held_shown, run_in, IsRunOf}
-use Rattle.bit_abbrev.specs.HeldOps.{Extends}
-use Rattle.bit_abbrev.proofs.Heads.{same_in_more}
+use Rattle.bit_grammar.specs.FormatDefinition.{Definable}
+use Rattle.bit_abbrev.specs.declared.held_op.HeldOp.TheVariants.{End}
+use Rattle.bit_abbrev.specs.HeldOps.{Extends, Holds}
+use Rattle.bit_abbrev.proofs.Encoded.{extended}
+use Rattle.bit_abbrev.proofs.Heads.{added_held, added_ops, all_in_more, and_one, same_in_more}
 
 -- ---- the heads
 
@@ -56,6 +59,23 @@ defined (e ∷ list) id ops other = by (nat_eq other e.0) (defined list id ops o
     by : (b : Bool) → held_for (list ++ (id, ops) ∷ []) other ≡ defined_at id ops (held_for list) other → (c : Bool) → map (λ (e : ℕ × List Op). e.1) (cond b (e ∷ filter (λ (e : ℕ × List Op). nat_eq other e.0) (list ++ (id, ops) ∷ [])) (filter (λ (e : ℕ × List Op). nat_eq other e.0) (list ++ (id, ops) ∷ []))) ≡ cond (nat_eq other id) (map (λ (e : ℕ × List Op). e.1) (cond b (e ∷ filter (λ (e : ℕ × List Op). nat_eq other e.0) list) (filter (λ (e : ℕ × List Op). nat_eq other e.0) list)) ++ ops ∷ []) (map (λ (e : ℕ × List Op). e.1) (cond b (e ∷ filter (λ (e : ℕ × List Op). nat_eq other e.0) list) (filter (λ (e : ℕ × List Op). nat_eq other e.0) list)))
     by false rest c = rest
     by true rest c = ap (λ (l : List (List Op)). e.1 ∷ l) rest ∙ inside (nat_eq other id)
+
+-- ---- one more, whose operands stand behind all others
+
+pub closed_held : {all mid new : List HeldOp} {more : List Head} {ops : List Op} (heads : List Head) (head : Head) → head.start ≡ length all → Holds all mid ops → new ≡ mid ++ End ∷ [] → more ≡ heads ++ head ∷ [] → Definable ops → AreHeld all heads → AreHeld new more
+closed_held heads head begins holds ends is definable are =
+    rw is (and_one _ _ head (all_in_more _ _ _ (extended _ holds.more_held ends) are) (added_held head begins holds ends definable))
+
+pub closed_shown : {all mid new : List HeldOp} {more : List Head} {ops : List Op} (heads : List Head) (head : Head) → head.start ≡ length all → Holds all mid ops → new ≡ mid ++ End ∷ [] → more ≡ heads ++ head ∷ [] → AreHeld all heads → held_shown new more ≡ held_shown all heads ++ (head.id, ops) ∷ []
+closed_shown {all} {mid} {new} heads head begins holds ends is are =
+    rw (is, shown_and_one new heads head, same_shown all new heads (extended _ holds.more_held ends) are, added_ops head begins holds ends) refl
+
+-- or none more
+pub not_closed : {all mid new : List HeldOp} {heads more : List Head} → Extends all mid → Extends mid new → more ≡ heads → AreHeld all heads → AreHeld new more
+not_closed first second is are = rw is (all_in_more _ _ _ (extended second.added first second.is) are)
+
+pub not_shown : {all mid new : List HeldOp} {heads more : List Head} → Extends all mid → Extends mid new → more ≡ heads → AreHeld all heads → held_shown new more ≡ held_shown all heads
+not_shown first second is are = rw is (same_shown _ _ _ (extended second.added first second.is) are)
 
 -- ---- a run of definitions
 

@@ -1,5 +1,5 @@
 -- Reading the operands of a definition, one after another.
-use Rattle.std.proofs.Common.{◌≡◌, ℕ, zero, suc, ◌+◌, ◌-◌, ◌<◌, ◌≤◌, Bool, true, not, ◌==◌, List, [], ◌∷◌, ◌++◌, length, Result, Ok, Err, refl, sym, ap, subst, arith, append_assoc}
+use Rattle.std.proofs.Common.{◌≡◌, ℕ, zero, suc, ◌+◌, ◌-◌, ◌<◌, ◌≤◌, Bool, true, not, ◌==◌, List, [], ◌∷◌, ◌++◌, length, Result, Ok, Err, refl, sym, ap, subst, arith, append_assoc, ◌∙◌}
 use Rattle.std.proofs.lemmas.List.{append-nil, length-append}
 use Rattle.std.proofs.lemmas.Bool.{lt-ltb, ne_eqb}
 use Rattle.std.specs.Prelude.{nat_lt}
@@ -18,6 +18,7 @@ use Rattle.bit_grammar.specs.Definition.{encoding, fits, passes, fixed_lawful, v
 use Rattle.bit_grammar.specs.FormatDefinition.{HasLawfulValue, Definable}
 use Rattle.bit_fields.specs.declared.fault.Fault.{Fault}
 use Rattle.bit_fields.specs.declared.fault.Fault.TheVariants.{Memory}
+use Rattle.bit_abbrev.specs.Defining.{AddsRead, TakesCount}
 use Rattle.bit_fields.specs.Reader.{Reader, Took, Why, Takes, told_by, failed_reader}
 use Rattle.bit_fields.proofs.Composing.{fault_then, first_chosen, from_here, holds_then, same_reading, second_chosen, took_nothing, took_then}
 use Rattle.bit_abbrev.proofs.Adding.{and_gives, memory_after}
@@ -72,13 +73,36 @@ some_count : (count : ℕ) → not (count == 0) ≡ true → nat_lt 0 count ≡ 
 some_count zero e = absurd cc
 some_count (suc n) e = lt-ltb 0 (suc n) (omega arith)
 
+-- the rule after the first bit
+abbrev numbered : Shapes → (first_bit : ℕ) → Grammar (List Op)
+numbered shapes first_bit = vbr 5 >>= λ count. test (nat_lt 0 count) (at AbbrevEmpty first_bit) >> operands shapes count first
+
+abbrev judged : Shapes → (first_bit count : ℕ) → Grammar (List Op)
+judged shapes first_bit count = test (nat_lt 0 count) (at AbbrevEmpty first_bit) >> operands shapes count first
+
 -- the operands after their number
-pub defined : (shapes : Shapes) (a : Reader) (count : ℕ) (b c : Reader) (ops : List Op) (d : Reader) → Took (vbr 5) a count b → not (count == 0) ≡ true → c ≡ b → Took (operands shapes count first) c ops d → Took (definition shapes) a ops d
+pub counted : (shapes : Shapes) (a : Reader) (count : ℕ) (b c : Reader) → Took (vbr 5) a count b → not (count == 0) ≡ true → c ≡ b → TakesCount shapes a (Ok count) c
 unfolding definition
-defined shapes a count b c ops d t some same u =
-    from_here (λ first_bit. vbr 5 >>= λ count. test (nat_lt 0 count) (at AbbrevEmpty first_bit) >> operands shapes count first) a (Ok ops) d
-    (took_then (vbr 5) (λ count. test (nat_lt 0 count) (at AbbrevEmpty a.position) >> operands shapes count first) a count b (Ok ops) d t
-    (holds_then (nat_lt 0 count) (at AbbrevEmpty a.position) (operands shapes count first) b (Ok ops) d (some_count count some) (subst (λ (x : Reader). Took (operands shapes count first) x ops d) same u)))
+counted shapes a count b c t some same = λ result d u.
+    from_here (numbered shapes) a result d
+    (took_then (vbr 5) (judged shapes a.position) a count b result d t
+    (holds_then (nat_lt 0 count) (at AbbrevEmpty a.position) (operands shapes count first) b result d (some_count count some) (subst (λ (x : Reader). Takes (operands shapes count first) x result d) same u)))
+
+pub uncounted : (shapes : Shapes) (a : Reader) (fault : Fault) (b : Reader) → Why (vbr 5) a fault b → Why (definition shapes) a fault b
+unfolding definition
+uncounted shapes a fault b why = from_here (numbered shapes) a (Err fault) b (fault_then (vbr 5) (judged shapes a.position) a fault b why)
+
+none_or_some : (count : ℕ) → not (count == 0) ≡ nat_lt 0 count
+none_or_some zero = refl
+none_or_some (suc n) = ap not (ne_eqb (suc n) 0 (λ e. absurd (omega (arith, e)))) ∙ sym (lt-ltb 0 (suc n) (omega arith))
+
+-- no operands
+pub empty : (shapes : Shapes) (a : Reader) (count : ℕ) (b : Reader) (first_bit : ℕ) (fault : Fault) (c : Reader) → first_bit ≡ a.position → Took (vbr 5) a count b → Why (test (not (count == 0)) (at AbbrevEmpty first_bit)) b fault c → Why (definition shapes) a fault c
+unfolding definition
+empty shapes a count b first_bit fault c here t why =
+    let judge : Why (test (nat_lt 0 count) (at AbbrevEmpty a.position)) b fault c = subst (λ (p : ℕ). Why (test (nat_lt 0 count) (at AbbrevEmpty p)) b fault c) here (subst (λ (h : Bool). Why (test h (at AbbrevEmpty first_bit)) b fault c) (none_or_some count) why) in
+    from_here (numbered shapes) a (Err fault) c (took_then (vbr 5) (judged shapes a.position) a count b (Err fault) c t
+    (fault_then (test (nat_lt 0 count) (at AbbrevEmpty a.position)) (λ x. operands shapes count first) b fault c judge))
 
 -- an operand that may not be there
 pub misplaced : (shapes : Shapes) (place : Place) (after first_bit : ℕ) (a : Reader) (k : Kind) (b : Reader) (fault : Fault) (c : Reader) → first_bit ≡ a.position → Took kind a k b → Why (test (passes shapes (fits place after k)) (at AbbrevShape first_bit)) b fault c → Why (operand shapes place after) a fault c
@@ -161,3 +185,9 @@ is_done shapes count a done place b ops most h =
 
 pub all_definable : (shapes : Shapes) (count : ℕ) (a : Reader) (done : ℕ) (place : Place) (b : Reader) (ops : List Op) → 0 < count → count ≤ done → Defines shapes count a done place b ops → Definable ops
 all_definable shapes count a done place b ops some most h = record { some = omega (arith, some, most, h.length_is); values = h.values }
+
+-- ---- adding what was read
+
+pub adds_so : {P Q : List Op → Type 0} (rule : Grammar (List Op)) (a : Reader) (result : Result (Unit {0}) Fault) (b : Reader) → ((ops : List Op) → P ops → Q ops) → AddsRead rule a result b P → AddsRead rule a result b Q
+adds_so rule a (Ok x) b so h = (h.0, h.1, so h.0 h.2)
+adds_so rule a (Err fault) b so h = h

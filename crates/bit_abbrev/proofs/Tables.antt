@@ -5,19 +5,24 @@ use Rattle.std.specs.Global.{Box}
 use Rattle.std.proofs.Math.Path.{fun_ext}
 use Rattle.bit_grammar.specs.declared.op.Op.{Op}
 use Rattle.bit_grammar.specs.Terms.{defined_at}
-use Rattle.bit_abbrev.specs.declared.ready.Later.{Later}
+use Rattle.bit_abbrev.specs.declared.held.HeldList.{HeldList}
 use Rattle.bit_abbrev.specs.declared.plan.Plan.{Plan}
 use Rattle.bit_abbrev.specs.Groups.{AreFirst, ready_for}
 use Rattle.bit_abbrev.specs.HeldLists.{held_for}
 use Rattle.bit_abbrev.specs.Plans.{ArePlans}
-use Rattle.bit_abbrev.specs.Ready.{AreReady, InfoLists, later_list, table_of}
+use Rattle.bit_abbrev.specs.Ready.{AreReady, InfoLists, later_list, newest_of, table_of}
 use Rattle.bit_abbrev.proofs.Grouping.{by_index, first_still}
 use Rattle.bit_abbrev.proofs.HeldLists.{defined}
 use Rattle.bit_abbrev.proofs.Places.{in_front, behind_all}
 
-pub none_later : (later : Option (Box Later)) → is_some later ≡ false → later_list later ≡ []
+pub none_later : (later : Option (Box HeldList)) → is_some later ≡ false → later_list later ≡ []
 none_later None none = refl
 none_later (Some later) none = absurd cc
+
+-- the last one behind those that are ready
+pub newest_any : (ready : List (List Op)) (later : Option (Box HeldList)) (ops : List Op) → newest_of [] later ≡ Some ops → newest_of ready later ≡ Some ops
+newest_any ready None ops is = absurd cc
+newest_any ready (Some later) ops is = is
 
 pub none_held : (list : List (ℕ × List Op)) (id : ℕ) → length list ≡ 0 → held_for list id ≡ []
 none_held [] id none = refl

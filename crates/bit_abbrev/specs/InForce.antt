@@ -7,10 +7,11 @@ use Rattle.bit_abbrev.specs.declared.found.Found.{Found}
 use Rattle.bit_abbrev.specs.declared.found.Found.TheVariants as found
 use Rattle.bit_abbrev.specs.Ready.{InfoLists}
 
--- the definitions in force in a block, and the last one that the block made
+-- the definitions in force in a block, the last one that the block made, and the same if it is ready
 pub record DefinitionsInForce : Type 0 where
   pub all : List (List Op)
   pub newest : Option (List Op)
+  pub ready : Option (List Op)
 
 -- those of a finished table
 abbrev pub finished : FinishedInfo → InfoLists

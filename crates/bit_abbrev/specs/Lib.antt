@@ -1,5 +1,6 @@
 pub mod Bits
 pub mod Breaks
+pub mod Defining
 pub mod Groups
 pub mod Heads
 pub mod HeldLists

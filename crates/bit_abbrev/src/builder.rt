@@ -1,12 +1,17 @@
 //! The table that a BLOCKINFO block makes.
 
-ghost use Rattle.std.specs.Prelude.{◌≡◌, None, Some, OnOk, OnErr};
+ghost use Rattle.std.specs.Prelude.{◌≡◌, ◌<◌, true, None, Some, IfOk, OnOk, OnErr};
 ghost use Rattle.std.specs.Option.{option_copied};
+ghost use Rattle.bit_grammar.specs.Definition.{operands};
+ghost use Rattle.bit_grammar.specs.declared.op.Place.TheVariants.{First};
 ghost use Rattle.bit_grammar.specs.Terms.{defined_at, no_definitions};
-ghost use Rattle.bit_abbrev.specs.Ready.{table_of};
+ghost use Rattle.bit_abbrev.specs.Defining.{AddsRead};
+ghost use Rattle.bit_abbrev.specs.Ready.{either, table_of};
 
 use crate::Abbrev;
-use crate::ready::{Later, ReadyGroup, Room, add_ready};
+use crate::held::HeldList;
+use crate::ready::{ReadyGroup, Room, add_later, add_ready, last_later, read_later};
+use bit_fields::{BitReader, Fault, Shapes, Source};
 use std::alloc::{AllocError, Global};
 use std::boxed::Box;
 use std::marker::Model;
@@ -24,18 +29,19 @@ pub struct InfoBuilder {
     plans: usize,
     /// The place of the group of the last definition that is ready.
     place: usize,
-    pub(crate) later: Option<Box<Later>>,
+    pub(crate) later: Option<Box<HeldList>>,
 }
 
 impl Model for InfoBuilder {
     ghost use Rattle.bit_abbrev.specs.Groups.{ready_at};
-    ghost use Rattle.bit_abbrev.specs.Ready.{InfoMade, later_list, newest_of};
+    ghost use Rattle.bit_abbrev.specs.Ready.{InfoMade, later_list, newest_of, newest_ready_of};
 
     ghost Value = { InfoMade };
 
     ghost view = { λ builder. record {
       made = record { ready = builder.groups.items; later = later_list builder.later };
       newest = newest_of (ready_at builder.groups.items builder.place) builder.later;
+      ready = newest_ready_of (ready_at builder.groups.items builder.place) builder.later;
     } };
 }
 
@@ -65,16 +71,46 @@ impl InfoBuilder {
             self.place = add_ready(self.alloc, &mut self.groups, id, abbrev, &mut self.plans)?;
             return Ok(());
         }
-        Later::add(&mut self.later, self.alloc, id, abbrev)
+        add_later(&mut self.later, self.alloc, id, &abbrev)
     }
 
-    /// The last definition that was added, if there is one.
-    pub fn newest(&self) -> Option<&Abbrev>
-        ensures { option_copied result ≡ self.now.newest }
+    /// Whether a definition of so many operands would be ready.
+    #[inline(always)]
+    pub fn has_room(&self, count: u64) -> bool {
+        self.later.is_none() && self.room.has(count)
+    }
+
+    /// Reads the operands of a definition for a block id, after their number, and adds it behind those that are ready.
+    pub fn read_held<S: Source>(
+        &mut self,
+        id: u32,
+        reader: &mut BitReader<S>,
+        shapes: Shapes,
+        count: u64,
+    ) -> Result<(), Fault>
+        requires some { 0 < count }
+        requires live { reader.old.live ≡ true }
+        ensures { AddsRead (operands shapes count First) reader.old result reader.new
+            (λ ops. (table_of self.new.made ≡ defined_at id ops (table_of self.old.made))
+            × (self.new.newest ≡ Some ops)) }
+    {
+        read_later(&mut self.later, self.alloc, id, reader, shapes, count)
+    }
+
+    /// The last definition that was added, if there is one and it is ready.
+    pub fn newest_ready(&self) -> Option<&Abbrev>
+        ensures { option_copied result ≡ self.now.ready }
     {
         match &self.later {
-            Some(later) => Some(&later.newest),
+            Some(_) => None,
             None => self.groups.get(self.place)?.ready().last(),
         }
+    }
+
+    /// The last definition that was added, made anew, if there is one and it is not ready.
+    pub fn newest_made(&self) -> Result<Option<Abbrev>, AllocError>
+        ensures { IfOk result (λ made. either made self.now.ready ≡ self.now.newest) }
+    {
+        last_later(&self.later, self.alloc)
     }
 }

@@ -1,21 +1,24 @@
 //! Reading definitions.
 
-ghost use Rattle.std.specs.Prelude.{◌≡◌, ◌-◌, ◌<◌, IfOk, OnErr, true};
+ghost use Rattle.std.specs.Prelude.{◌≡◌, ◌-◌, ◌<◌, [], IfOk, OnOk, OnErr, true};
 ghost use Rattle.bit_grammar.specs.Definition.{kind, passes, valued, operand, operands, definition};
+ghost use Rattle.bit_grammar.specs.declared.shapes.Shapes.{Shapes};
 ghost use Rattle.bit_grammar.specs.declared.op.Place.TheVariants.{First};
 ghost use Rattle.bit_grammar.specs.FormatDefinition.{HasLawfulValue, Definable};
 ghost use Rattle.bit_fields.specs.Reader.{Takes, IsOnly, told_by};
+ghost use Rattle.bit_abbrev.specs.Defining.{AddsOps, TakesCount};
 
 use crate::abbrev::{Abbrev, Ops, fits, place_after};
+use crate::op_taker::OpTaker;
 use crate::widths::{is_fixed_width, is_vbr_width};
 use bit_fields::{BitReader, Fault, Source};
 use bit_grammar::{Kind, Op, Place, Reason, Shapes};
 use smallvec::SmallVec;
 use std::alloc::{AllocError, Global};
 
-/// Reads the flag of an operand, and its encoding if it has one.
+/// Reads the flag of an operand, and its encoding if it has one. For `U` see `read_record`.
 #[tactic(auto, unfolding(bit_grammar::specs::Definition::kind))]
-fn read_kind<S: Source>(reader: &mut BitReader<S>) -> Result<Kind, Fault>
+fn read_kind<U, S: Source>(reader: &mut BitReader<S>) -> Result<Kind, Fault>
     ensures { Takes kind reader.old result reader.new }
 {
     if reader.fixed(1)? == 1 {
@@ -37,7 +40,7 @@ fn read_kind<S: Source>(reader: &mut BitReader<S>) -> Result<Kind, Fault>
 
 /// Reads the value of an operand of this kind.
 #[tactic(auto, unfolding(bit_grammar::specs::Definition::valued))]
-fn read_value<S: Source>(reader: &mut BitReader<S>, kind: Kind) -> Result<Op, Fault>
+fn read_value<U, S: Source>(reader: &mut BitReader<S>, kind: Kind) -> Result<Op, Fault>
     requires { reader.old.live ≡ true }
     ensures takes { Takes (valued kind) reader.old result reader.new }
     ensures lawful { IfOk result HasLawfulValue }
@@ -74,7 +77,7 @@ fn passes(shapes: Shapes, fits: bool) -> bool
 
 /// Reads an operand at a place, with `after` operands after it.
 #[tactic(auto, unfolding(bit_grammar::specs::Definition::operand))]
-fn read_operand<S: Source>(
+fn read_operand<U, S: Source>(
     reader: &mut BitReader<S>,
     shapes: Shapes,
     place: Place,
@@ -84,10 +87,10 @@ fn read_operand<S: Source>(
     ensures lawful { IfOk result HasLawfulValue }
 {
     let first = reader.position();
-    let kind = read_kind(reader)?;
+    let kind = read_kind::<U, S>(reader)?;
     let passed = passes(shapes, fits(place, after, kind));
     reader.judge(passed, Reason::AbbrevShape, first)?;
-    read_value(reader, kind)
+    read_value::<U, S>(reader, kind)
 }
 
 /// Operands while they are read. Up to eight need no allocation.
@@ -97,30 +100,44 @@ type Gathered = SmallVec<Op, 8>;
 /// again.
 const COPIED: usize = 4096;
 
-/// Reads `count` operands.
-fn read_operands<S: Source>(
-    alloc: Global,
+impl OpTaker for Gathered {
+    ghost use Rattle.std.specs.Prelude.{◌≡◌, ◌++◌};
+
+    ghost added = { λ first ops last. last.items ≡ first.items ++ ops };
+
+    #[inline(always)]
+    fn take(&mut self, op: Op) -> Result<(), AllocError> {
+        match self.push(op) {
+            Ok(()) => Ok(()),
+            Err(_) => Err(AllocError),
+        }
+    }
+}
+
+/// Reads `count` operands into a list. If it fails, some may have been added.
+#[inline(always)]
+pub(crate) fn read_operands<S: Source, T: OpTaker>(
     reader: &mut BitReader<S>,
     shapes: Shapes,
     count: u64,
-) -> Result<Gathered, Fault>
+    list: &mut T,
+) -> Result<(), Fault>
     requires some { 0 < count }
     requires live { reader.old.live ≡ true }
-    ensures takes { Takes (operands shapes count First) reader.old
-        (told_by (λ ops. ops.items) result) reader.new }
-    ensures definable { IfOk result (λ ops. Definable ops.items) }
+    requires none { T.added list.old [] list.old }
+    ensures { AddsOps T.added list.old list.new (λ ops. OnOk result (Definable ops)
+        × Takes (operands shapes count First) reader.old (told_by (λ _. ops) result) reader.new) }
 {
-    let mut ops = SmallVec::new(alloc);
     let mut place = Place::First;
     for i in 0..count {
-        let op = read_operand(reader, shapes, place, count - 1 - i)?;
+        let op = read_operand::<T, S>(reader, shapes, place, count - 1 - i)?;
         place = place_after(op);
-        match ops.push(op) {
+        match list.take(op) {
             Ok(()) => {}
             Err(_) => return Err(reader.fail(Fault::Memory)),
         }
     }
-    Ok(ops)
+    Ok(())
 }
 
 /// The same operands, without room for more.
@@ -134,19 +151,51 @@ fn shrunk(gathered: Gathered) -> Result<Ops, AllocError>
     Ok(Ops::from_vec(ops))
 }
 
-/// Reads the number of operands, and the operands.
-#[tactic(auto, unfolding(bit_grammar::specs::Definition::definition))]
-fn read_definition<S: Source>(
-    alloc: Global,
-    reader: &mut BitReader<S>,
-    shapes: Shapes,
-) -> Result<Abbrev, Fault>
-    ensures { Takes (definition shapes) reader.old result reader.new }
+/// Reads the number of operands of a definition, after its abbreviation id.
+#[inline(always)]
+pub fn read_count<S: Source>(reader: &mut BitReader<S>) -> Result<u64, Fault>
+    ensures takes { (shapes : Shapes) → TakesCount shapes reader.old result reader.new }
+    ensures live { OnOk result (reader.new.live ≡ true) }
+    ensures some { IfOk result (λ count. 0 < count) }
 {
     let first = reader.position();
     let count = reader.vbr(5)?;
     reader.judge(count != 0, Reason::AbbrevEmpty, first)?;
-    let gathered = read_operands(alloc, reader, shapes, count)?;
+    Ok(count)
+}
+
+/// Reads `count` operands.
+#[inline(always)]
+fn read_gathered<S: Source>(
+    alloc: Global,
+    reader: &mut BitReader<S>,
+    shapes: Shapes,
+    count: u64,
+) -> Result<Gathered, Fault>
+    requires some { 0 < count }
+    requires live { reader.old.live ≡ true }
+    ensures takes { Takes (operands shapes count First) reader.old
+        (told_by (λ ops. ops.items) result) reader.new }
+    ensures definable { IfOk result (λ ops. Definable ops.items) }
+{
+    let mut gathered = SmallVec::new(alloc);
+    read_operands(reader, shapes, count, &mut gathered)?;
+    Ok(gathered)
+}
+
+/// Reads the operands of a definition, after their number.
+#[inline(always)]
+pub fn read_ops<S: Source>(
+    alloc: Global,
+    reader: &mut BitReader<S>,
+    shapes: Shapes,
+    count: u64,
+) -> Result<Abbrev, Fault>
+    requires some { 0 < count }
+    requires live { reader.old.live ≡ true }
+    ensures { Takes (operands shapes count First) reader.old result reader.new }
+{
+    let gathered = read_gathered(alloc, reader, shapes, count)?;
     let ops = if gathered.len() <= COPIED {
         Ops::from_slice(alloc, gathered.as_slice())
     } else {
@@ -156,6 +205,18 @@ fn read_definition<S: Source>(
         Ok(ops) => Ok(Abbrev::from_definable(ops)),
         Err(_) => Err(reader.fail(Fault::Memory)),
     }
+}
+
+/// Reads the number of operands, and the operands.
+fn read_definition<S: Source>(
+    alloc: Global,
+    reader: &mut BitReader<S>,
+    shapes: Shapes,
+) -> Result<Abbrev, Fault>
+    ensures { Takes (definition shapes) reader.old result reader.new }
+{
+    let count = read_count(reader)?;
+    read_ops(alloc, reader, shapes, count)
 }
 
 /// Reads a definition after its abbreviation id. If shapes are judged at their use, operands in any order are read.

@@ -1,12 +1,21 @@
 //! Definitions that are held in few bytes.
 
-ghost use Rattle.std.specs.Prelude.{◌≡◌, ◌<◌, ◌^◌, ◌++◌, ◌∷◌, [], ℕ, Some, IfOk, IfSome, IfNone, OnOk, OnErr, length, slice_get};
+ghost use Rattle.std.specs.Prelude.{◌≡◌, ◌<◌, ◌^◌, ◌++◌, ◌∷◌, [], ℕ, true, Some, IfOk, IfSome, IfNone, OnOk, OnErr, length, slice_get};
+ghost use Rattle.bit_grammar.specs.Definition.{operands};
+ghost use Rattle.bit_grammar.specs.declared.op.Place.TheVariants.{First};
 ghost use Rattle.bit_grammar.specs.FormatDefinition.{Definable};
 ghost use Rattle.bit_abbrev.specs.HeldLists.{all_of, held_for, InOrder, IsRunOf};
 ghost use Rattle.bit_abbrev.specs.HeldOps.{more, ops_in, Extends, Holds};
+ghost use Rattle.bit_abbrev.specs.declared.held.Head.{Head};
+ghost use Rattle.bit_abbrev.specs.declared.held_op.HeldOp.TheVariants.{End};
+ghost use Rattle.bit_abbrev.specs.Defining.{AddsRead};
+ghost use Rattle.bit_abbrev.specs.Ready.{last_one};
 
 use crate::abbrev::{Abbrev, Ops};
+use crate::definition::read_operands;
 use crate::held_op::{HeldOp, push};
+use crate::op_taker::OpTaker;
+use bit_fields::{BitReader, Fault, Shapes, Source};
 use bit_grammar::Op;
 use std::alloc::{AllocError, Global};
 use std::marker::Model;
@@ -116,6 +125,41 @@ fn hold(held: &mut Vec<HeldOp>, ops: &[Op]) -> Result<(), AllocError>
     Ok(())
 }
 
+impl OpTaker for Vec<HeldOp> {
+    ghost use Rattle.bit_abbrev.specs.HeldOps.{Holds};
+
+    ghost added = { λ first ops last. Holds first.items last.items ops };
+
+    #[inline(always)]
+    fn take(&mut self, op: Op) -> Result<(), AllocError> {
+        push(self, op)
+    }
+}
+
+/// Ends a definition for a block id, whose operands begin at `start`. If an allocation fails, or all have 2^32 operands, there is no
+/// definition more.
+fn close(
+    held: &mut Vec<HeldOp>,
+    heads: &mut Vec<Head>,
+    id: u32,
+    start: usize,
+) -> Result<(), AllocError>
+    ensures held { OnOk result (held.new.items ≡ held.old.items ++ End ∷ []) }
+    ensures heads { OnOk result (heads.new.items ≡ heads.old.items ++ record { id = id; start = start } ∷ []) }
+    ensures more { OnErr result (Extends held.old.items held.new.items) }
+    ensures same { OnErr result (heads.new.items ≡ heads.old.items) }
+{
+    if start > u32::MAX as usize {
+        return Err(AllocError);
+    }
+    held.push(HeldOp::End)?;
+    heads.push(Head {
+        id,
+        start: start as u32,
+    })?;
+    Ok(())
+}
+
 impl HeldList {
     /// No definitions. It allocates nothing.
     pub(crate) fn new(alloc: Global) -> HeldList
@@ -141,15 +185,30 @@ impl HeldList {
         ensures err { OnErr result (self.new ≡ self.old) }
     {
         let start = self.held.len();
-        if start > u32::MAX as usize {
-            return Err(AllocError);
-        }
         hold(&mut self.held, abbrev.ops())?;
-        self.held.push(HeldOp::End)?;
-        self.heads.push(Head {
-            id,
-            start: start as u32,
-        })?;
+        close(&mut self.held, &mut self.heads, id, start)?;
+        Ok(())
+    }
+
+    /// Reads a definition of `count` operands for a block id, and adds it.
+    pub(crate) fn read<S: Source>(
+        &mut self,
+        id: u32,
+        reader: &mut BitReader<S>,
+        shapes: Shapes,
+        count: u64,
+    ) -> Result<(), Fault>
+        requires some { 0 < count }
+        requires live { reader.old.live ≡ true }
+        ensures { AddsRead (operands shapes count First) reader.old result reader.new
+            (λ ops. self.new ≡ self.old ++ (id, ops) ∷ []) }
+    {
+        let start = self.held.len();
+        read_operands(reader, shapes, count, &mut self.held)?;
+        match close(&mut self.held, &mut self.heads, id, start) {
+            Ok(()) => {}
+            Err(_) => return Err(reader.fail(Fault::Memory)),
+        }
         Ok(())
     }
 
@@ -185,5 +244,14 @@ impl HeldList {
             held: &self.held[start..],
         };
         rest.copy(alloc)
+    }
+    /// The last definition, if there is one.
+    pub(crate) fn last(&self, alloc: Global) -> Result<Option<Abbrev>, AllocError>
+        ensures { IfOk result (λ last. last ≡ last_one (all_of self.now)) }
+    {
+        match self.len() {
+            0 => Ok(None),
+            len => Ok(Some(self.copy(alloc, len - 1)?)),
+        }
     }
 }

@@ -1,19 +1,24 @@
 //! The table that blocks share, and the definitions in force in a block.
 
-ghost use Rattle.std.specs.Prelude.{◌≡◌, ◌++◌, [], ◌∷◌, None, Some, IfOk, IfSome, OnOk, OnErr, slice_get};
+ghost use Rattle.std.specs.Prelude.{◌≡◌, ◌<◌, ◌++◌, [], ◌∷◌, true, None, Some, IfOk, IfSome, OnOk, OnErr, slice_get};
 ghost use Rattle.std.specs.Option.{option_copied};
+ghost use Rattle.bit_grammar.specs.Definition.{operands};
+ghost use Rattle.bit_grammar.specs.declared.op.Place.TheVariants.{First};
 ghost use Rattle.bit_grammar.specs.Terms.{no_definitions};
+ghost use Rattle.bit_abbrev.specs.Defining.{AddsRead};
 ghost use Rattle.bit_abbrev.specs.Plans.{ArePlans};
 ghost use Rattle.bit_abbrev.specs.HeldLists.{all_of};
 ghost use Rattle.bit_abbrev.specs.InForce.{found_if_any};
-ghost use Rattle.bit_abbrev.specs.Ready.{later_list, table_of};
+ghost use Rattle.bit_abbrev.specs.Ready.{either, later_list, table_of};
 
 use crate::builder::InfoBuilder;
 use crate::finished::FinishedInfo;
 use crate::found::Found;
 use crate::from_table::FromTable;
-use crate::ready::{Later, Room, place_of};
+use crate::held::HeldList;
+use crate::ready::{Room, add_later, in_order, last_later, place_of, read_later};
 use crate::{Abbrev, Plan};
+use bit_fields::{BitReader, Fault, Shapes, Source};
 use std::alloc::{AllocError, Global};
 use std::boxed::Box;
 use std::marker::Model;
@@ -51,7 +56,7 @@ impl SharedInfo {
         if groups.len() > u32::MAX as usize {
             return Err(AllocError);
         }
-        let later = Later::in_order(later, alloc)?;
+        let later = in_order(later, alloc)?;
         let table = Rc::new(alloc, FinishedInfo { groups, later })?;
         Ok(SharedInfo { table: Some(table) })
     }
@@ -93,7 +98,7 @@ pub struct InForce {
     own: Vec<Abbrev>,
     room: Room,
     /// and those behind them.
-    later: Option<Box<Later>>,
+    later: Option<Box<HeldList>>,
 }
 
 impl Model for InForce {
@@ -101,7 +106,7 @@ impl Model for InForce {
     ghost use Rattle.std.specs.Option.{option_map_or};
     ghost use Rattle.bit_abbrev.specs.HeldLists.{all_of};
     ghost use Rattle.bit_abbrev.specs.InForce.{DefinitionsInForce, finished};
-    ghost use Rattle.bit_abbrev.specs.Ready.{later_list, newest_of, table_of};
+    ghost use Rattle.bit_abbrev.specs.Ready.{later_list, newest_of, newest_ready_of, table_of};
 
     ghost Value = { DefinitionsInForce };
 
@@ -109,6 +114,7 @@ impl Model for InForce {
       all = option_map_or (λ shared. table_of (finished shared.table.value) shared.id) inside.shared []
           ++ (inside.own.items ++ all_of (later_list inside.later));
       newest = newest_of inside.own.items inside.later;
+      ready = newest_ready_of inside.own.items inside.later;
     } };
 }
 
@@ -152,7 +158,7 @@ impl<'a> Definitions<'a> {
 fn find_own<'a>(
     alloc: Global,
     own: &'a [Abbrev],
-    later: &Option<Box<Later>>,
+    later: &Option<Box<HeldList>>,
     index: usize,
 ) -> Result<Option<Found<'a>>, AllocError>
     ensures { IfOk result (λ found. found_if_any found
@@ -165,10 +171,10 @@ fn find_own<'a>(
         return Ok(None);
     };
     let place = index - own.len();
-    if place >= later.list.len() {
+    if place >= later.len() {
         return Ok(None);
     }
-    Ok(Some(Found::Made(later.list.copy(alloc, place)?)))
+    Ok(Some(Found::Made(later.copy(alloc, place)?)))
 }
 
 impl InForce {
@@ -196,7 +202,28 @@ impl InForce {
             self.own.push(abbrev)?;
             return Ok(());
         }
-        Later::add(&mut self.later, self.alloc, 0, abbrev)
+        add_later(&mut self.later, self.alloc, 0, &abbrev)
+    }
+
+    /// Whether a definition of so many operands would be ready.
+    #[inline(always)]
+    pub fn has_room(&self, count: u64) -> bool {
+        self.later.is_none() && self.room.has(count)
+    }
+
+    /// Reads the operands of a definition of the block, after their number, and adds it behind those that are ready.
+    pub fn read_held<S: Source>(
+        &mut self,
+        reader: &mut BitReader<S>,
+        shapes: Shapes,
+        count: u64,
+    ) -> Result<(), Fault>
+        requires some { 0 < count }
+        requires live { reader.old.live ≡ true }
+        ensures { AddsRead (operands shapes count First) reader.old result reader.new
+            (λ ops. (self.new.all ≡ self.old.all ++ ops ∷ []) × (self.new.newest ≡ Some ops)) }
+    {
+        read_later(&mut self.later, self.alloc, 0, reader, shapes, count)
     }
 
     /// The plans of the first definitions, possibly none.
@@ -257,13 +284,20 @@ impl InForce {
         find_own(self.alloc, self.own.as_slice(), &self.later, index - count)
     }
 
-    /// The last definition that the block added, if there is one.
-    pub fn newest(&self) -> Option<&Abbrev>
-        ensures { option_copied result ≡ self.now.newest }
+    /// The last definition that the block added, if there is one and it is ready.
+    pub fn newest_ready(&self) -> Option<&Abbrev>
+        ensures { option_copied result ≡ self.now.ready }
     {
         match &self.later {
-            Some(later) => Some(&later.newest),
+            Some(_) => None,
             None => self.own.last(),
         }
+    }
+
+    /// The last definition that the block added, made anew, if there is one and it is not ready.
+    pub fn newest_made(&self) -> Result<Option<Abbrev>, AllocError>
+        ensures { IfOk result (λ made. either made self.now.ready ≡ self.now.newest) }
+    {
+        last_later(&self.later, self.alloc)
     }
 }

@@ -1,14 +1,19 @@
 //! Definitions that are ready to be read by, and those behind them.
 
-ghost use Rattle.std.specs.Prelude.{◌≡◌, ◌++◌, ◌∷◌, [], ℕ, IfOk, OnOk, OnErr, Some};
+ghost use Rattle.std.specs.Prelude.{◌≡◌, ◌<◌, ◌≤◌, ◌++◌, ◌∷◌, [], ℕ, List, true, IfOk, OnOk, OnErr, Some};
+ghost use Rattle.bit_grammar.specs.Definition.{operands};
+ghost use Rattle.bit_grammar.specs.declared.op.Op.{Op};
+ghost use Rattle.bit_grammar.specs.declared.op.Place.TheVariants.{First};
 ghost use Rattle.bit_grammar.specs.Terms.{defined_at};
+ghost use Rattle.bit_abbrev.specs.Defining.{AddsRead};
 ghost use Rattle.bit_abbrev.specs.Groups.{AreFirst, IsPlaceOf, ready_at, ready_for};
 ghost use Rattle.bit_abbrev.specs.HeldLists.{held_for, InOrder};
-ghost use Rattle.bit_abbrev.specs.Ready.{last_one, later_list, newest_of};
+ghost use Rattle.bit_abbrev.specs.Ready.{either, last_one, later_list, newest_of, newest_ready_of};
 
 use crate::Abbrev;
 use crate::held::HeldList;
 use crate::plan::Plan;
+use bit_fields::{BitReader, Fault, Shapes, Source};
 use std::alloc::{AllocError, Global};
 use std::boxed::Box;
 use std::marker::Model;
@@ -36,10 +41,19 @@ impl Room {
         }
     }
 
+    /// Whether there is room for a definition with so many operands.
+    #[inline(always)]
+    pub(crate) fn has(&self, operands: u64) -> bool
+        ensures { result ≡ true → (0 < self.now.definitions) × (operands ≤ self.now.operands)
+            × (operands ≤ 65535) }
+    {
+        self.definitions > 0 && operands <= u64::from(self.operands)
+    }
+
     /// Takes the room of a definition with so many operands, if it is there.
     #[inline(always)]
     pub(crate) fn take(&mut self, operands: usize) -> bool {
-        if self.definitions == 0 || operands > usize::from(self.operands) {
+        if !self.has(operands as u64) {
             return false;
         }
         self.definitions -= 1;
@@ -162,50 +176,78 @@ pub(crate) fn add_ready(
     Ok(place)
 }
 
-/// Definitions behind those that are ready, and the last one of them as it was given.
-#[derive(Drop)]
-pub(crate) struct Later {
-    pub(crate) list: HeldList,
-    pub(crate) newest: Abbrev,
+/// Adds a definition for a block id behind those that are ready. If an allocation fails, nothing changes.
+#[cold]
+#[inline(never)]
+pub(crate) fn add_later(
+    later: &mut Option<Box<HeldList>>,
+    alloc: Global,
+    id: u32,
+    abbrev: &Abbrev,
+) -> Result<(), AllocError>
+    ensures list { OnOk result (later_list later.new ≡ later_list later.old ++ (id, «abbrev».now) ∷ []) }
+    ensures newest { OnOk result (newest_of [] later.new ≡ Some «abbrev».now) }
+    ensures err { OnErr result (later.new ≡ later.old) }
+{
+    if let Some(list) = later {
+        return list.add(id, abbrev);
+    }
+    let mut list = HeldList::new(alloc);
+    list.add(id, abbrev)?;
+    *later = Some(Box::new(alloc, list)?);
+    Ok(())
 }
 
-impl Later {
-    /// Adds a definition for a block id. If an allocation fails, it is dropped.
-    #[cold]
-    #[inline(never)]
-    pub(crate) fn add(
-        later: &mut Option<Box<Later>>,
-        alloc: Global,
-        id: u32,
-        abbrev: Abbrev,
-    ) -> Result<(), AllocError>
-        ensures list { OnOk result (later_list later.new ≡ later_list later.old ++ (id, «abbrev») ∷ []) }
-        ensures newest { OnOk result (newest_of [] later.new ≡ Some «abbrev») }
-        ensures err { OnErr result (later.new ≡ later.old) }
-    {
-        if let Some(later) = later {
-            later.list.add(id, &abbrev)?;
-            later.newest = abbrev;
-            return Ok(());
-        }
-        let mut list = HeldList::new(alloc);
-        list.add(id, &abbrev)?;
-        let newest = abbrev;
-        *later = Some(Box::new(alloc, Later { list, newest })?);
-        Ok(())
+/// Reads a definition of `count` operands for a block id, and adds it behind those that are ready.
+#[cold]
+#[inline(never)]
+pub(crate) fn read_later<S: Source>(
+    later: &mut Option<Box<HeldList>>,
+    alloc: Global,
+    id: u32,
+    reader: &mut BitReader<S>,
+    shapes: Shapes,
+    count: u64,
+) -> Result<(), Fault>
+    requires some { 0 < count }
+    requires live { reader.old.live ≡ true }
+    ensures { AddsRead (operands shapes count First) reader.old result reader.new
+        (λ ops. (later_list later.new ≡ later_list later.old ++ (id, ops) ∷ [])
+        × (newest_of [] later.new ≡ Some ops)) }
+{
+    if let Some(list) = later {
+        return list.read(id, reader, shapes, count);
     }
+    let mut list = HeldList::new(alloc);
+    list.read(id, reader, shapes, count)?;
+    match Box::new(alloc, list) {
+        Ok(list) => *later = Some(list),
+        Err(_) => return Err(reader.fail(Fault::Memory)),
+    }
+    Ok(())
+}
 
-    /// The definitions in the order of block ids. Those for one id stay in their order.
-    pub(crate) fn in_order(later: Option<Box<Later>>, alloc: Global) -> Result<HeldList, AllocError>
-        ensures order { IfOk result InOrder }
-        ensures same { IfOk result (λ list. (id : ℕ) → held_for list id ≡ held_for (later_list later) id) }
-    {
-        match later {
-            Some(later) => {
-                let Later { list, .. } = Box::into_inner(later);
-                list.in_order()
-            }
-            None => Ok(HeldList::new(alloc)),
-        }
+/// The last one of the definitions behind those that are ready, if there is one.
+pub(crate) fn last_later(
+    later: &Option<Box<HeldList>>,
+    alloc: Global,
+) -> Result<Option<Abbrev>, AllocError>
+    ensures { (ready : List (List Op)) → IfOk result (λ made. either made (newest_ready_of ready later.now)
+        ≡ newest_of ready later.now) }
+{
+    match later {
+        Some(list) => list.last(alloc),
+        None => Ok(None),
+    }
+}
+
+/// The definitions in the order of block ids. Those for one id stay in their order.
+pub(crate) fn in_order(later: Option<Box<HeldList>>, alloc: Global) -> Result<HeldList, AllocError>
+    ensures order { IfOk result InOrder }
+    ensures same { IfOk result (λ list. (id : ℕ) → held_for list id ≡ held_for (later_list later) id) }
+{
+    match later {
+        Some(list) => Box::into_inner(list).in_order(),
+        None => Ok(HeldList::new(alloc)),
     }
 }

@@ -30,7 +30,7 @@ use Rattle.bit_events.specs.declared.machine.Machine.{Machine}
 use Rattle.bit_events.specs.FrameView.{frame_shown, frames_onto, frames_shown}
 use Rattle.bit_events.specs.declared.machine.Step.TheVariants as found
 use Rattle.bit_events.specs.Coming.{held_after}
-use Rattle.bit_events.specs.MachineView.{machine_shown, definition_of, step_shown, step_lent, KeepsValues, HoldsDefinition, LeavesMachine}
+use Rattle.bit_events.specs.MachineView.{machine_shown, definition_of, step_shown, step_lent, KeepsValues, HoldsDefinition, Lendable, LeavesMachine}
 use Rattle.bit_events.specs.Coming.{over as over_stage}
 use Rattle.bit_events.specs.Coming.{EndsStream, failed, Goes, GivesEvent, EndsEvents, BreaksOff, StopsEvents, event_before, end_at, end_by, told_of}
 use Rattle.bit_events.specs.Next.{LeadsOn, left_to_tell, FindsEvent, FindsEnd, FindsFault}
@@ -252,11 +252,11 @@ declined limits i OutputTooLong now low h = absurd h
 -- ---- in the program's state
 
 -- a definition that the machine holds is lent
-lends : (m : Machine) (values : List ℕ) (step : Step) → HoldsDefinition m (step_shown m values step) → step_lent m values step ≡ Some (step_shown m values step)
-lends m values (found.Enter body first id width) h = refl
-lends m values (found.Define first after) h = ap (option_map (definition_of first after)) h
-lends m values (found.Record head) h = refl
-lends m values (found.Leave after) h = refl
+lends : (m : Machine) (values : List ℕ) (step : Step) → HoldsDefinition m (step_shown m values step) → Lendable m step → step_lent m values step ≡ Some (step_shown m values step)
+lends m values (found.Enter body first id width) h l = refl
+lends m values (found.Define first after) h l = ap (option_map (definition_of first after)) (l ∙ h)
+lends m values (found.Record head) h l = refl
+lends m values (found.Leave after) h l = refl
 
 -- the values held after a step
 pub values_held : {V : Type 0} (kept : V → List ℕ) (n : Machine) (step : Step) (v w : V) → KeepsValues step v w → kept w ≡ held_after (step_shown n (kept w) step) (kept v)
@@ -266,10 +266,10 @@ values_held kept n (found.Record head) v w e = refl
 values_held kept n (found.Leave after) v w e = ap kept e
 
 -- an event was found, and it is lent
-pub kept_goes : (is_over now_over : Bool) (limits : Limits) (head : Head) (m n : Machine) (vs ws : List ℕ) (found : Option Step) (next : Step) (place there : ℕ) (a c : Reader) → is_over ≡ false → now_over ≡ false → place ≡ a.position → there ≡ c.position → FindsEvent limits m a (step_shown n ws next) n c → ws ≡ held_after (step_shown n ws next) vs → a.position < c.position → there < 2 ^ 64
+pub kept_goes : (is_over now_over : Bool) (limits : Limits) (head : Head) (m n : Machine) (vs ws : List ℕ) (found : Option Step) (next : Step) (place there : ℕ) (a c : Reader) → is_over ≡ false → now_over ≡ false → place ≡ a.position → there ≡ c.position → FindsEvent limits m a (step_shown n ws next) n c → Lendable n next → ws ≡ held_after (step_shown n ws next) vs → a.position < c.position → there < 2 ^ 64
     → Goes (coming_of is_over limits head m vs found place a) (Ok (step_lent n ws next)) (coming_of now_over limits head n ws (Some next) there c)
-kept_goes is_over now_over limits head m n vs ws found next place there a c e now_e here is_there finds held forward below =
-    subst (λ (o : Option Event). Goes (coming_of is_over limits head m vs found place a) (Ok o) (coming_of now_over limits head n ws (Some next) there c)) (sym (lends n ws next finds.leaves.holds))
+kept_goes is_over now_over limits head m n vs ws found next place there a c e now_e here is_there finds can held forward below =
+    subst (λ (o : Option Event). Goes (coming_of is_over limits head m vs found place a) (Ok o) (coming_of now_over limits head n ws (Some next) there c)) (sym (lends n ws next finds.leaves.holds can))
     (subst (λ (x : Bool). GivesEvent (coming_of x limits head m vs found place a) (step_shown n ws next) (coming_of now_over limits head n ws (Some next) there c)) (sym e)
     (subst (λ (x : Bool). GivesEvent (coming_of false limits head m vs found place a) (step_shown n ws next) (coming_of x limits head n ws (Some next) there c)) (sym now_e) given))
   where

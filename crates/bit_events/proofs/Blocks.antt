@@ -27,7 +27,7 @@ use Rattle.bit_events.specs.FrameView.{info_shown, frame_shown, frames_shown}
 use Rattle.bit_events.specs.HeadView.{head_shown}
 use Rattle.bit_events.specs.MachineView.{bit_after, handed_shown, machine_shown, step_shown, end_rule, InBlock, LeavesMachine}
 use Rattle.bit_events.specs.Folding.{GathersSome, Lost, MissesEvents, TakesRun}
-use Rattle.bit_events.specs.Gathering.{Gathers}
+use Rattle.bit_events.specs.Gathering.{FailsAt, Gathers}
 use Rattle.bit_events.specs.Next.{left_to_tell, FindsEvent}
 use Rattle.bit_events.specs.Runs.{FindsHere, GathersOn, GathersRun, GathersUpTo, Passed, StepsHere, StopsOn}
 use Rattle.bit_events.proofs.Advancing.{dead, finds_event, leaves_later, none_shown}
@@ -227,7 +227,7 @@ on_step gathered limits m a g event n b h here moves gathers = record {
 }
 
 -- it was not gathered
-pub stop_step : {G : Type 0} (gathered : G → List Event → G → Type 0) (fails : G → Option Event → G → Type 0) (limits : Limits) (m : Machine) (a : BufferedBits) (g : G) (event : Event) (n : Machine) (b : BufferedBits) (h : G) → FindsHere (step limits (machine_shown m)) limits.depth m a event n b → a.position < b.position → fails g (Some event) h → StopsOn gathered fails limits m a g h
+pub stop_step : {G : Type 0} (gathered : G → List Event → G → Type 0) (fails : G → Option Event → G → Type 0) (limits : Limits) (m : Machine) (a : BufferedBits) (g : G) (event : Event) (n : Machine) (b : BufferedBits) (h : G) → FindsHere (step limits (machine_shown m)) limits.depth m a event n b → a.position < b.position → FailsAt fails g event h → StopsOn gathered fails limits m a g h
 stop_step gathered fails limits m a g event n b h here moves failed = λ r sees. first_event gathered fails limits m r g h event n (reader_further r (b.position - a.position)) (step_found limits m a event n b r here moves sees) failed
 
 -- nothing more was gathered
@@ -381,7 +381,7 @@ up_to_there gathered limits m a g n first h p = (
 pub up_to_step : {G : Type 0} (gathered : G → List Event → G → Type 0) (limits : Limits) (m : Machine) (a : BufferedBits) (g : G) (list : List ℕ) (found : Step) (n : Machine) (h : G) → StepsHere (step limits (machine_shown m)) limits.depth m a (Some found) n → a.position < bit_after found → Gathers gathered g (step_shown n list found) h → GathersUpTo gathered limits m a g n (bit_after found) h
 up_to_step gathered limits m a g list found n h steps moves gathers = (steps.0, steps.1, on_step gathered limits m a g (step_shown n list found) n steps.0 h (steps.2 list) (omega (arith, moves, steps.1)) gathers)
 
-pub stop_at_step : {G : Type 0} (gathered : G → List Event → G → Type 0) (fails : G → Option Event → G → Type 0) (limits : Limits) (m : Machine) (a : BufferedBits) (g : G) (list : List ℕ) (found : Step) (n : Machine) (h : G) → StepsHere (step limits (machine_shown m)) limits.depth m a (Some found) n → a.position < bit_after found → fails g (Some (step_shown n list found)) h → StopsOn gathered fails limits m a g h
+pub stop_at_step : {G : Type 0} (gathered : G → List Event → G → Type 0) (fails : G → Option Event → G → Type 0) (limits : Limits) (m : Machine) (a : BufferedBits) (g : G) (list : List ℕ) (found : Step) (n : Machine) (h : G) → StepsHere (step limits (machine_shown m)) limits.depth m a (Some found) n → a.position < bit_after found → FailsAt fails g (step_shown n list found) h → StopsOn gathered fails limits m a g h
 stop_at_step gathered fails limits m a g list found n h steps moves failed = stop_step gathered fails limits m a g (step_shown n list found) n steps.0 h (steps.2 list) (omega (arith, moves, steps.1)) failed
 
 pub stop_behind : {G : Type 0} (gathered : G → List Event → G → Type 0) (fails : G → Option Event → G → Type 0) (limits : Limits) (m : Machine) (a : BufferedBits) (g : G) (n : Machine) (first : ℕ) (h k : G) → GathersUpTo gathered limits m a g n first h → StopsOn gathered fails limits n (beyond a (first - a.position)) h k → StopsOn gathered fails limits m a g k

@@ -22,7 +22,7 @@ use Rattle.bit_events.specs.declared.machine.Machine.{Machine}
 use Rattle.bit_grammar.proofs.Events.Telling.{told_if_broken}
 use Rattle.bit_events.specs.Events.{coming_of, Begun}
 use Rattle.bit_events.specs.Folding.{GathersSome, GathersAll, GathersBefore, GathersFirst, MissesEvents, Gathered}
-use Rattle.bit_events.specs.Gathering.{open_behind, left_open, Gathers, Stops}
+use Rattle.bit_events.specs.Gathering.{open_behind, left_open, FailsAt, Gathers, Stops}
 use Rattle.bit_events.specs.MachineView.{machine_shown}
 use Rattle.bit_events.specs.Next.{LeadsOn, left_to_tell, FindsEvent, FindsEnd, FindsFault}
 use Rattle.bit_events.specs.Reading.{Spent, ReadsWhole}
@@ -156,8 +156,9 @@ pub first_bits : {G : Type 0} (gathered : G → List Event → G → Type 0) (fa
 first_bits gathered fails limits m a g h failed = first_of gathered fails limits m a g h (left_to_tell limits m a).0 (λ _. refl) (inr (inl failed))
 
 -- no event: a call failed at one
-pub first_event : {G : Type 0} (gathered : G → List Event → G → Type 0) (fails : G → Option Event → G → Type 0) (limits : Limits) (m : Machine) (a : Reader) (g h : G) (event : Event) (n : Machine) (b : Reader) → FindsEvent limits m a event n b → fails g (Some event) h → FirstOf gathered fails limits m a g h
-first_event gathered fails limits m a g h event n b finds failed =
+pub first_event : {G : Type 0} (gathered : G → List Event → G → Type 0) (fails : G → Option Event → G → Type 0) (limits : Limits) (m : Machine) (a : Reader) (g h : G) (event : Event) (n : Machine) (b : Reader) → FindsEvent limits m a event n b → FailsAt fails g event h → FirstOf gathered fails limits m a g h
+first_event gathered fails limits m a g h event n b finds (inl same) = first_of gathered fails limits m a g h (left_to_tell limits m a).0 (λ _. refl) (inl same)
+first_event gathered fails limits m a g h event n b finds (inr failed) =
     let others = (left_to_tell limits n b).0 in
     first_of gathered fails limits m a g h (event ∷ others) (λ tells. ap (λ (told : Told). told.0) (finds.told tells)) (inr (inr (event, others, refl, failed)))
 
@@ -212,7 +213,7 @@ misses_after gathered fails limits m a g n b h Write c k live some miss = miss
 misses_after gathered fails limits m a g n b h OutputTooLong c k live some miss = miss
 
 -- no memory was left to gather an event
-pub event_lost : {G : Type 0} (gathered : G → List Event → G → Type 0) (fails : G → Option Event → G → Type 0) (limits : Limits) (m : Machine) (a : Reader) (g : G) (event : Event) (n : Machine) (b : Reader) (h : G) → FindsEvent limits m a event n b → fails g (Some event) h → MissesEvents gathered fails limits m a g Memory (failed_reader b) h
+pub event_lost : {G : Type 0} (gathered : G → List Event → G → Type 0) (fails : G → Option Event → G → Type 0) (limits : Limits) (m : Machine) (a : Reader) (g : G) (event : Event) (n : Machine) (b : Reader) (h : G) → FindsEvent limits m a event n b → FailsAt fails g event h → MissesEvents gathered fails limits m a g Memory (failed_reader b) h
 event_lost gathered fails limits m a g event n b h finds failed = (
   record { was_live = finds.was_live; failed = refl; goes_on = Spends-none a.incoming a.budget b.incoming b.budget finds.pays },
   first_event gathered fails limits m a g h event n b finds failed,

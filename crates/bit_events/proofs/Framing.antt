@@ -175,10 +175,6 @@ pub define_missed : (shapes : Shapes) (first : ℕ) (scope : Scope) (a b : Reade
 unfolding define
 define_missed shapes first scope a b fault c t h = why (define shapes first scope) a fault c (andThen t (breaks h))
 
-pub define_lost : (shapes : Shapes) (first : ℕ) (scope : Scope) (a b : Reader) (ops : List Op) (c d : Reader) → Took (test (may_define scope.info) (at NoBlockSet first)) a tt b → Took (definition shapes) b ops c → d ≡ failed_reader c → Why (define shapes first scope) a Memory d
-unfolding define
-define_lost shapes first scope a b ops c d t u is = why (define shapes first scope) a Memory d (andThen t (andThen u (here c.position refl (without_memory u.live is))))
-
 pub define_took : (shapes : Shapes) (first : ℕ) (scope : Scope) (a b : Reader) (ops : List Op) (c d : Reader) (after : ℕ) (copy : List Op) (new : Scope) → Took (test (may_define scope.info) (at NoBlockSet first)) a tt b → Took (definition shapes) b ops c → d ≡ c → after ≡ c.position → copy ≡ ops → new ≡ defined scope.info ops scope
     → Took (define shapes first scope) a (record { ops = copy; first = first; after = after }, new) d
 unfolding define

@@ -1,6 +1,7 @@
 pub mod Entering
 pub mod Framing
 pub mod Stepping
+pub mod Lending
 pub mod Telling
 pub mod Advancing
 pub mod Beginnings

@@ -1,5 +1,5 @@
 -- Buffered records, gathered one after another.
-use Rattle.std.proofs.Common.{◌≡◌, ℕ, ◌+◌, ◌-◌, ◌<◌, ◌≤◌, Bool, List, [], ◌∷◌, ◌++◌, length, None, Some, Option, Ok, Err, refl, sym, ap, subst, ◌∙◌, arith, append_assoc, length-append, vec_len, get_or, suc}
+use Rattle.std.proofs.Common.{inr, ◌≡◌, ℕ, ◌+◌, ◌-◌, ◌<◌, ◌≤◌, Bool, List, [], ◌∷◌, ◌++◌, length, None, Some, Option, Ok, Err, refl, sym, ap, subst, ◌∙◌, arith, append_assoc, length-append, vec_len, get_or, suc}
 use Rattle.bit_grammar.specs.Grammar.{Grammar, gives, ◌>>=◌}
 use Rattle.bit_grammar.specs.Fields.{fixed}
 use Rattle.bit_grammar.specs.Terms.{CodeAndValues}
@@ -207,4 +207,4 @@ stop_record gathered fails limits f used a g h id code list c step failed = λ m
     let here = step outer (machine_shown m).handed same in
     let made : machine_shown n ≡ after_record (frame_shown f) outer (machine_shown m).handed list = rw split refl in
     let forward = reads_forward (step_of limits (frame_shown f ∷ outer) (machine_shown m).handed) a (record_of id list a.position (code, c.position), after_record (frame_shown f) outer (machine_shown m).handed list) c here in
-    first_event gathered fails limits m r g h (record_of id list a.position (code, c.position)) n (reader_further r (c.position - a.position)) (one_found limits m n outer (frame_shown f) id code list r a c split refl made forward sees here) failed
+    first_event gathered fails limits m r g h (record_of id list a.position (code, c.position)) n (reader_further r (c.position - a.position)) (one_found limits m n outer (frame_shown f) id code list r a c split refl made forward sees here) (inr failed)

@@ -2,6 +2,7 @@
 use Rattle.std.proofs.Common.{◌≡◌, ℕ, zero, suc, ◌+◌, ◌<◌, ◌≤◌, Bool, true, false, not, is_some, eqb, ltb, List, [], ◌∷◌, ◌++◌, length, get_or, take, set, Option, Some, None, Result, Ok, Err, IsSome, is_none, refl, sym, ap, ◌∙◌, subst, arith}
 use Rattle.std.specs.Prelude.{unwrap_or, IfOk, OnOk}
 use Rattle.std.proofs.lemmas.Bool.{ne_eqb}
+use Rattle.std.specs.declared.alloc.AllocError.{AllocError}
 use Rattle.bit_grammar.specs.declared.shapes.Shapes.{Shapes}
 use Rattle.bit_grammar.specs.declared.op.Op.{Op}
 use Rattle.bit_grammar.specs.declared.reason.Reason.TheVariants.{TooDeep, TopLevel, NestedInBlockInfo}
@@ -22,8 +23,9 @@ use Rattle.bit_events.specs.declared.machine.Step.{Step}
 use Rattle.bit_events.specs.declared.machine.Step.TheVariants.{Define}
 use Rattle.bit_events.specs.declared.machine.Step.TheVariants as found
 use Rattle.bit_events.specs.HeadView.{head_shown}
-use Rattle.bit_events.specs.FrameView.{info_shown, frame_shown, newest_in, frames_onto, frames_shown}
-use Rattle.bit_events.specs.MachineView.{newest, step_shown, KeepsValues, innermost_head, HoldsDefinition, LeavesMachine, end_rule, define_rule, record_rule}
+use Rattle.bit_abbrev.specs.Ready.{either}
+use Rattle.bit_events.specs.FrameView.{info_shown, frame_shown, newest_in, ready_in, frames_onto, frames_shown}
+use Rattle.bit_events.specs.MachineView.{newest, lent, step_shown, KeepsValues, innermost_head, HoldsDefinition, LeavesMachine, end_rule, define_rule, record_rule}
 use Rattle.bit_events.proofs.Telling.{told, why, answers, andThen, breaks, ends, here, first_rule, second_rule, without_memory}
 
 -- ---- the open blocks
@@ -198,6 +200,14 @@ not-not false = refl
 pub plain_is : (frames : List Frame) (k : ℕ) (f : Frame) (plain : Bool) (shown : machine.Frame) (outer : List machine.Frame) → length frames ≡ suc k → f ≡ get_or frames k f → is_some f.info ≡ not plain → frames_shown frames ≡ shown ∷ outer → plain ≡ is_none shown.info
 plain_is frames k f plain shown outer n is e split = not-not plain ∙ ap not (sym e) ∙ is_none-shown f.info ∙ ap (λ (x : machine.Frame). is_none x.info) (innermost frames k f shown outer n is split)
 
+-- what is lent of the innermost block
+lent-last : (made : Option (List Op)) (frames : List Frame) (k : ℕ) (f : Frame) → length frames ≡ suc k → f ≡ get_or frames k f → lent made frames ≡ either made (ready_in f)
+lent-last made [] k f n is = absurd (omega arith)
+lent-last made (a ∷ []) zero f n is = ap (λ (x : Frame). either made (ready_in x)) (sym is)
+lent-last made (a ∷ []) (suc k) f n is = absurd (omega arith)
+lent-last made (a ∷ b ∷ frames) zero f n is = absurd (omega arith)
+lent-last made (a ∷ b ∷ frames) (suc k) f n is = lent-last made (b ∷ frames) k f (omega arith) is
+
 -- the newest definition of the innermost block
 newest-last : (frames : List Frame) (k : ℕ) (f : Frame) → length frames ≡ suc k → f ≡ get_or frames k f → newest frames ≡ newest_in f
 newest-last [] k f n is = absurd (omega arith)
@@ -206,8 +216,20 @@ newest-last (a ∷ []) (suc k) f n is = absurd (omega arith)
 newest-last (a ∷ b ∷ frames) zero f n is = absurd (omega arith)
 newest-last (a ∷ b ∷ frames) (suc k) f n is = newest-last (b ∷ frames) k f (omega arith) is
 
-pub newest_is : (frames : List Frame) (k : ℕ) (f : Frame) (found : Option (List Op)) → length frames ≡ suc k → f ≡ get_or frames k f → found ≡ newest_in f → found ≡ newest frames
-newest_is frames k f found n is same = same ∙ sym (newest-last frames k f n is)
+-- one that is ready
+pub ready_is : (frames : List Frame) (k : ℕ) (f : Frame) (found : Option (List Op)) → length frames ≡ suc k → f ≡ get_or frames k f → found ≡ ready_in f → found ≡ lent None frames
+ready_is frames k f found n is same = same ∙ sym (lent-last None frames k f n is)
+
+-- one that was made
+pub made_is : (frames : List Frame) (k : ℕ) (f : Frame) (result : Result (Option (List Op)) AllocError) → length frames ≡ suc k → f ≡ get_or frames k f → IfOk result (λ made. either made (ready_in f) ≡ newest_in f) → IfOk result (λ made. lent made frames ≡ newest frames)
+made_is frames k f (Ok made) n is same = lent-last made frames k f n is ∙ same ∙ sym (newest-last frames k f n is)
+made_is frames k f (Err e) n is same = tt
+
+-- what was made is lent
+pub some_lent : (ops : List Op) (frames : List Frame) → Some ops ≡ lent (Some ops) frames
+some_lent ops [] = refl
+some_lent ops (f ∷ []) = refl
+some_lent ops (f ∷ g ∷ frames) = some_lent ops (g ∷ frames)
 
 pub newest_set : (frames : List Frame) (k : ℕ) (new : Frame) → length frames ≡ suc k → newest (set frames k new) ≡ newest_in new
 newest_set [] k new n = absurd (omega arith)

@@ -1,7 +1,9 @@
 -- The model of an open block of the program.
-use Rattle.std.specs.Prelude.{ℕ, ◌^◌, List, [], ◌∷◌, Option, Some, None, nat_lt, if◌then◌else◌}
+use Rattle.std.specs.Prelude.{◌≡◌, ℕ, ◌^◌, List, [], ◌∷◌, Option, Some, None, nat_lt, if◌then◌else◌}
 use Rattle.bit_grammar.specs.declared.op.Op.{Op}
 use Rattle.bit_grammar.specs.Terms.{BlockInfo}
+use Rattle.bit_grammar.specs.Blocks.{Handed, defined}
+use Rattle.bit_grammar.specs.Machine.{scope_of}
 use Rattle.bit_grammar.specs.Machine as machine
 use Rattle.bit_abbrev.specs.Ready.{table_of}
 use Rattle.bit_events.specs.HeadView.{head_shown}
@@ -39,6 +41,20 @@ newest_of own (Some d) = d.made.newest
 
 abbrev pub newest_in : Frame → Option (List Op)
 newest_in f = newest_of f.definitions.newest f.info
+
+-- the same, if it is ready
+abbrev pub ready_of : Option (List Op) → Option Describing → Option (List Op)
+ready_of own None = own
+ready_of own (Some d) = d.made.ready
+
+abbrev pub ready_in : Frame → Option (List Op)
+ready_in f = ready_of f.definitions.ready f.info
+
+-- a definition was added, which is the last one
+pub record AddsDefinition (old new : Frame) (ops : List Op) : Type 0 where
+  pub made : (handed : Handed) → scope_of (frame_shown new) handed
+      ≡ defined (info_shown old.info) ops (scope_of (frame_shown old) handed)
+  pub last : newest_in new ≡ Some ops
 
 -- ---- the open blocks
 

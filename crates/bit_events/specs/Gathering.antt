@@ -23,3 +23,7 @@ abbrev pub Stops : {G : Type 0} → (G → Option Event → G → Type 0) → (b
     → (after : G) → Type 0
 Stops fails before rest after = (after ≡ before) ⊎ (fails before None after ⊎ ((event : Event)
     × (others : List Event) × (rest ≡ event ∷ others) × fails before (Some event) after))
+
+-- It failed at an event: nothing changed, or a call of the gatherer failed.
+abbrev pub FailsAt : {G : Type 0} → (G → Option Event → G → Type 0) → (before : G) → Event → (after : G) → Type 0
+FailsAt fails before event after = (after ≡ before) ⊎ fails before (Some event) after

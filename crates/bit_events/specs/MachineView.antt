@@ -9,8 +9,8 @@ use Rattle.bit_grammar.specs.Machine as machine
 use Rattle.bit_grammar.specs.Machine.{Event, enters, defines, notes, leaves, Frame, scope_of, inside}
 use Rattle.bit_grammar.specs.Steps.{MayStand, open_after}
 use Rattle.bit_fields.specs.Reader.{Reader}
-use Rattle.bit_abbrev.specs.Ready.{table_of}
-use Rattle.bit_events.specs.FrameView.{newest_in, frames_shown}
+use Rattle.bit_abbrev.specs.Ready.{either, table_of}
+use Rattle.bit_events.specs.FrameView.{newest_in, ready_in, frames_shown}
 use Rattle.bit_events.specs.declared.frame.Frame as held
 use Rattle.bit_events.specs.declared.machine.Machine.{Machine}
 use Rattle.bit_events.specs.declared.machine.Step.{Step}
@@ -27,6 +27,12 @@ abbrev pub newest : List held.Frame → Option (List Op)
 newest [] = None
 newest (f ∷ []) = newest_in f
 newest (f ∷ g ∷ frames) = newest (g ∷ frames)
+
+-- the same, from one that was made anew and one that is ready
+abbrev pub lent : (made : Option (List Op)) → List held.Frame → Option (List Op)
+lent made [] = made
+lent made (f ∷ []) = either made (ready_in f)
+lent made (f ∷ g ∷ frames) = lent made (g ∷ frames)
 
 -- ---- events
 
@@ -58,8 +64,17 @@ bit_after (found.Leave after) = after
 -- the same event as it is lent, if the machine has its definition
 abbrev pub step_lent : Machine → List ℕ → Step → Option Event
 step_lent m values (found.Define first after) = option_map (definition_of first after)
-    (newest m.frames.items)
+    (lent m.made m.frames.items)
 step_lent m values step = Some (step_shown m values step)
+
+abbrev pub IsDefine : Step → Type 0
+IsDefine (found.Define first after) = Unit {0}
+IsDefine step = ⊥
+
+-- the machine can lend the definition of a step
+abbrev pub Lendable : Machine → Step → Type 0
+Lendable m (found.Define first after) = lent m.made m.frames.items ≡ newest m.frames.items
+Lendable m step = Unit {0}
 
 -- an event, and the machine after it
 abbrev pub after_step : Machine → List ℕ → Step → Event × machine.Machine

@@ -29,6 +29,11 @@ impl Gatherer for Nothing {
         Ok(())
     }
 
+    #[inline(always)]
+    fn defined(&mut self, _first: u64, _after: u64) -> Result<bool, AllocError> {
+        Ok(true)
+    }
+
     #[inline]
     fn define(&mut self, _abbrev: &Abbrev, _first: u64, _after: u64) -> Result<(), AllocError> {
         Ok(())

@@ -117,7 +117,7 @@ impl<S: Source, V: ValueKeeper> EventFinder<S, V> {
         if !self.reader.is_live() {
             return Err(Fault::Failed);
         }
-        self.found = self.machine.next(
+        self.found = self.machine.next_lent(
             self.alloc,
             &mut self.reader,
             &self.limits,

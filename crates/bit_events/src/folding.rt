@@ -1,12 +1,13 @@
 //! Reading a whole input into a `Gatherer`.
 
-ghost use Rattle.std.specs.Prelude.{◌≡◌, ◌<◌, ◌≤◌, ◌+◌, ◌-◌, ◌%◌, true, ℕ, List, [], Some, OnOk, OnErr, IfOk, length, vec_len};
+ghost use Rattle.std.specs.Prelude.{◌≡◌, ◌<◌, ◌≤◌, ◌+◌, ◌-◌, ◌%◌, true, ℕ, List, [], IsSome, OnOk, OnErr, IfOk, length, vec_len};
 ghost use Rattle.bit_fields.specs.Buffered.{beyond};
 ghost use Rattle.bit_fields.specs.BufferedParts.{bits_of_parts, AreParts};
 ghost use Rattle.bit_fields.specs.Opening.{head_told};
 ghost use Rattle.bit_events.specs.Folding.{Lost, TakesRun, TakesNext, TakesAll, Gathered};
-ghost use Rattle.bit_events.specs.Gathering.{Gathers};
-ghost use Rattle.bit_events.specs.MachineView.{step_shown, HoldsDefinition, TookSome};
+ghost use Rattle.bit_events.specs.Gathering.{FailsAt, Gathers};
+ghost use Rattle.bit_events.specs.MachineView.{newest, step_shown, HoldsDefinition, TookSome};
+ghost use Rattle.bit_events.specs.declared.machine.Step.TheVariants.{Define};
 ghost use Rattle.bit_events.specs.Reading.{ReadsWhole};
 ghost use Rattle.bit_events.specs.Runs.{GathersUpTo, StopsOn};
 
@@ -31,6 +32,30 @@ pub struct Folded<G> {
     pub after: u64,
 }
 
+/// Gives the gatherer the newest definition, with its operands only if it wants them.
+fn hand_definition<G: Gatherer>(
+    gatherer: &mut G,
+    machine: &Machine,
+    first: u64,
+    after: u64,
+) -> Result<(), AllocError>
+    requires { IsSome (newest machine.now.frames.items) }
+    ensures gathers { OnOk result (Gathers G.gathered gatherer.old
+        (step_shown machine.now [] (Define first after)) gatherer.new) }
+    ensures fails { OnErr result (FailsAt G.fails gatherer.old
+        (step_shown machine.now [] (Define first after)) gatherer.new) }
+{
+    let taken = gatherer.defined(first, after)?;
+    if taken {
+        return Ok(());
+    }
+    let made = machine.newest_made()?;
+    match machine.newest(&made) {
+        Some(abbrev) => gatherer.define(abbrev, first, after),
+        None => unreachable!(),
+    }
+}
+
 /// Gives the gatherer the event of a step, and the values of a record.
 #[inline(always)]
 fn hand_on<G: Gatherer>(
@@ -44,7 +69,7 @@ fn hand_on<G: Gatherer>(
     ensures gathers { OnOk result ((list : List ℕ) → G.Values.took values.old list
         → Gathers G.gathered gatherer.old (step_shown machine.now list step) gatherer.new) }
     ensures fails { OnErr result ((list : List ℕ) → G.Values.took values.old list
-        → G.fails gatherer.old (Some (step_shown machine.now list step)) gatherer.new) }
+        → FailsAt G.fails gatherer.old (step_shown machine.now list step) gatherer.new) }
     ensures took { TookSome G.Values.took values.new }
 {
     match step {
@@ -54,10 +79,7 @@ fn hand_on<G: Gatherer>(
             first,
             body,
         } => gatherer.enter(id, width, first, body),
-        Step::Define { first, after } => match machine.newest() {
-            Some(abbrev) => gatherer.define(abbrev, first, after),
-            None => unreachable!(),
-        },
+        Step::Define { first, after } => hand_definition(gatherer, machine, first, after),
         Step::Record(head) => gatherer.record(
             head.abbrev,
             head.code,

@@ -1,19 +1,23 @@
-ghost use Rattle.std.specs.Prelude.{◌≡◌, ◌-◌, ◌+◌, ◌≤◌, true, [], ℕ, List, Some, OnOk, IsSome, length, unwrap_or, slice_get};
+ghost use Rattle.std.specs.Prelude.{◌≡◌, ◌-◌, ◌+◌, ◌<◌, ◌≤◌, true, [], ℕ, List, Some, OnOk, IsSome, length, unwrap_or, slice_get, IfOk};
 ghost use Rattle.std.specs.Option.{option_copied};
 ghost use Rattle.bit_grammar.specs.Blocks as blocks;
 ghost use Rattle.bit_grammar.specs.Blocks.{Handed, defined, define, describe, entry, record_after, may_define};
+ghost use Rattle.bit_grammar.specs.Definition.{operands};
+ghost use Rattle.bit_grammar.specs.declared.op.Place.TheVariants.{First};
 ghost use Rattle.bit_grammar.specs.Machine.{scope_of};
 ghost use Rattle.bit_fields.specs.Reader.{Takes, told_by};
+ghost use Rattle.bit_abbrev.specs.Defining.{AddsRead};
 ghost use Rattle.bit_abbrev.specs.InForce.{found_if_any};
+ghost use Rattle.bit_abbrev.specs.Ready.{either};
 ghost use Rattle.bit_abbrev.specs.Values.{AddsWithin, Gains, Has, Keeps};
 ghost use Rattle.bit_events.specs.Firsts.{TookWithFirst};
-ghost use Rattle.bit_events.specs.FrameView.{describing_shown, info_shown, described_value, frame_shown, newest_in};
+ghost use Rattle.bit_events.specs.FrameView.{describing_shown, info_shown, described_value, frame_shown, newest_in, ready_in, AddsDefinition};
 
 use crate::entry::read_entry;
 use crate::head::BlockHead;
 use crate::heads::or_memory_fault;
 use crate::with_first::WithFirst;
-use bit_abbrev::{Abbrev, Found, InForce, InfoBuilder, read_define};
+use bit_abbrev::{Abbrev, Found, InForce, InfoBuilder, read_count, read_ops};
 use bit_fields::{BitReader, Fault, Reason, Shapes, Source, ValueTaker};
 use bit_grammar::SET_BID;
 use std::alloc::{AllocError, Global};
@@ -44,13 +48,23 @@ impl Frame {
         }
     }
 
-    /// The last definition that the block made, if there is one.
-    pub(crate) fn newest(&self) -> Option<&Abbrev>
-        ensures { option_copied result ≡ newest_in self.now }
+    /// The last definition that the block made, if there is one and it is ready.
+    pub(crate) fn newest_ready(&self) -> Option<&Abbrev>
+        ensures { option_copied result ≡ ready_in self.now }
     {
         match &self.info {
-            None => self.definitions.newest(),
-            Some(info) => info.made.newest(),
+            None => self.definitions.newest_ready(),
+            Some(info) => info.made.newest_ready(),
+        }
+    }
+
+    /// The last definition that the block made, made anew, if there is one and it is not ready.
+    pub(crate) fn newest_made(&self) -> Result<Option<Abbrev>, AllocError>
+        ensures { IfOk result (λ made. either made (ready_in self.now) ≡ newest_in self.now) }
+    {
+        match &self.info {
+            None => self.definitions.newest_made(),
+            Some(info) => info.made.newest_made(),
         }
     }
 
@@ -72,6 +86,64 @@ impl Frame {
                 None => Ok(()),
             },
         }
+    }
+
+    /// Whether a definition of so many operands would be ready.
+    fn has_room(&self, count: u64) -> bool {
+        match &self.info {
+            None => self.definitions.has_room(count),
+            Some(info) => info.made.has_room(count),
+        }
+    }
+
+    /// Reads the operands of a definition, after their number, and adds it as `put` does. It is held in few bytes.
+    #[cold]
+    #[inline(never)]
+    #[tactic(auto, using(crate::proofs::Framing::put_described))]
+    fn read_held<S: Source>(
+        &mut self,
+        reader: &mut BitReader<S>,
+        shapes: Shapes,
+        count: u64,
+    ) -> Result<(), Fault>
+        requires describes { may_define (info_shown self.old.info) ≡ true }
+        requires some { 0 < count }
+        requires live { reader.old.live ≡ true }
+        ensures reads { AddsRead (operands shapes count First) reader.old result reader.new
+            (AddsDefinition self.old self.new) }
+        ensures head { self.new.head ≡ self.old.head }
+    {
+        match &mut self.info {
+            None => self.definitions.read_held(reader, shapes, count),
+            Some(info) => match info.described {
+                Some(id) => info.made.read_held(id, reader, shapes, count),
+                None => unreachable!(),
+            },
+        }
+    }
+
+    /// Reads the operands of a definition, after their number, and adds it.
+    #[inline(always)]
+    fn read<S: Source>(
+        &mut self,
+        alloc: Global,
+        reader: &mut BitReader<S>,
+        shapes: Shapes,
+        count: u64,
+    ) -> Result<(), Fault>
+        requires describes { may_define (info_shown self.old.info) ≡ true }
+        requires some { 0 < count }
+        requires live { reader.old.live ≡ true }
+        ensures reads { AddsRead (operands shapes count First) reader.old result reader.new
+            (AddsDefinition self.old self.new) }
+        ensures head { self.new.head ≡ self.old.head }
+    {
+        if !self.has_room(count) {
+            return self.read_held(reader, shapes, count);
+        }
+        let abbrev = read_ops(alloc, reader, shapes, count)?;
+        or_memory_fault(reader, self.put(abbrev))?;
+        Ok(())
     }
 }
 
@@ -98,10 +170,9 @@ pub(crate) fn define<S: Source>(
     ensures head { frame.new.head ≡ frame.old.head }
 {
     reader.judge(frame.may_define(), Reason::NoBlockSet, first)?;
-    let abbrev = read_define(alloc, reader, shapes)?;
-    let after = reader.position();
-    or_memory_fault(reader, frame.put(abbrev))?;
-    Ok(after)
+    let count = read_count(reader)?;
+    frame.read(alloc, reader, shapes, count)?;
+    Ok(reader.position())
 }
 
 /// The first value of a record as a block id, if there is one and it fits.

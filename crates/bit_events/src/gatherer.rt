@@ -1,4 +1,5 @@
 ghost use Rattle.std.specs.Prelude.{◌≡◌, ◌≤◌, ℕ, List, [], Some, None, OnOk, OnErr, IfOk, length, true, false};
+ghost use Rattle.bit_grammar.specs.declared.op.Op.{Op};
 ghost use Rattle.bit_grammar.specs.Machine.{enters, defines, notes, leaves};
 ghost use Rattle.bit_fields.specs.PlacedView.{placed};
 ghost use Rattle.bit_abbrev.specs.Plans.{ArePlans};
@@ -35,6 +36,19 @@ pub trait Gatherer {
             (enters (record { id = id; width = width; first = first; body = body })) self.new) }
         ensures fails { OnErr result (fails self.old
             (Some (enters (record { id = id; width = width; first = first; body = body }))) self.new) };
+
+    /// Takes a definition as `define` does, without its operands, which are then held in fewer bytes. If it returns `false`, nothing
+    /// changed, and `define` is called for it.
+    #[inline(always)]
+    fn defined(&mut self, _first: u64, _after: u64) -> Result<bool, AllocError>
+        ensures gathers { IfOk result (λ taken. taken ≡ true → (ops : List Op) → Gathers gathered self.old
+            (defines (record { ops = ops; first = _first; after = _after })) self.new) }
+        ensures declines { IfOk result (λ taken. taken ≡ false → self.new ≡ self.old) }
+        ensures fails { OnErr result ((ops : List Op) → fails self.old
+            (Some (defines (record { ops = ops; first = _first; after = _after }))) self.new) }
+    {
+        Ok(false)
+    }
 
     /// Takes a definition in the innermost block, its first bit and the bit after it.
     fn define(&mut self, abbrev: &Abbrev, first: u64, after: u64) -> Result<(), AllocError>

@@ -1,5 +1,6 @@
-ghost use Rattle.std.specs.Prelude.{◌≡◌, ◌<◌, ◌≤◌, ◌+◌, ◌-◌, ◌^◌, ◌%◌, true, [], ℕ, List, OnOk, OnErr, IfOk, vec_len, length, is_none, None, IsNone, IfSome, IfNone, OnSome, IsTrue, ◌↔◌};
+ghost use Rattle.std.specs.Prelude.{◌≡◌, ◌<◌, ◌≤◌, ◌+◌, ◌-◌, ◌^◌, ◌%◌, true, [], ℕ, List, Option, OnOk, OnErr, IfOk, vec_len, length, is_none, None, IsNone, IfSome, IfNone, OnSome, IsTrue, ◌↔◌};
 ghost use Rattle.std.specs.Option.{option_copied, option_map};
+ghost use Rattle.bit_grammar.specs.declared.op.Op.{Op};
 ghost use Rattle.bit_grammar.specs.Blocks.{enter, leave};
 ghost use Rattle.bit_grammar.specs.Terms.{info_for};
 ghost use Rattle.bit_grammar.specs.Machine.{at_start, open_block, open_nested, step_after, step_in, step_top, step, scope_of, inside};
@@ -13,7 +14,7 @@ ghost use Rattle.bit_events.specs.EventView.{shown_if_any};
 ghost use Rattle.bit_events.specs.HeadView.{head_shown};
 ghost use Rattle.bit_events.specs.FrameView.{info_shown, frames_shown};
 ghost use Rattle.bit_events.specs.Runs.{AddsBehind, StepsHere};
-ghost use Rattle.bit_events.specs.MachineView.{handed_shown, machine_shown, newest, bit_after, step_shown, step_lent, after_step, KeepsValues, record_of, innermost_head, LeavesMachine, TookSome, InBlock, end_rule, define_rule, record_rule};
+ghost use Rattle.bit_events.specs.MachineView.{handed_shown, machine_shown, newest, lent, IsDefine, Lendable, bit_after, step_shown, step_lent, after_step, KeepsValues, record_of, innermost_head, LeavesMachine, TookSome, InBlock, end_rule, define_rule, record_rule};
 
 use crate::event::{Event, RecordHead};
 use crate::frame::{Describing, Frame, define, record_after};
@@ -59,6 +60,8 @@ pub(crate) struct Machine {
     pub(crate) table: SharedInfo,
     pub(crate) used: u64,
     pub(crate) planning: Planning,
+    /// The last definition that was lent, if it had to be made anew.
+    made: Option<Abbrev>,
 }
 
 impl Step {
@@ -96,6 +99,7 @@ impl Machine {
             table: SharedInfo::new(),
             used: 0,
             planning,
+            made: None,
         }
     }
 
@@ -688,14 +692,72 @@ impl Machine {
         Ok(Some(step))
     }
 
-    /// The last definition that the innermost block made, if there is one.
-    #[tactic(auto, using(crate::proofs::Stepping::newest_is))]
-    pub(crate) fn newest(&self) -> Option<&Abbrev>
-        ensures { option_copied result ≡ newest self.now.frames.items }
+    /// The last definition that the innermost block made, if there is one: the one that was made anew, or else the one that is ready.
+    #[tactic(auto, using(crate::proofs::Stepping::ready_is, crate::proofs::Stepping::some_lent))]
+    pub(crate) fn newest<'a>(&'a self, made: &'a Option<Abbrev>) -> Option<&'a Abbrev>
+        ensures { option_copied result ≡ lent made.now self.now.frames.items }
+    {
+        if let Some(abbrev) = made {
+            return Some(abbrev);
+        }
+        match self.frames.last() {
+            Some(frame) => frame.newest_ready(),
+            None => None,
+        }
+    }
+
+    /// The last definition that the innermost block made, made anew, if there is one and it is not ready.
+    pub(crate) fn newest_made(&self) -> Result<Option<Abbrev>, AllocError>
+        ensures { IfOk result (λ made. lent made self.now.frames.items ≡ newest self.now.frames.items) }
     {
         match self.frames.last() {
-            Some(frame) => frame.newest(),
-            None => None,
+            Some(frame) => frame.newest_made(),
+            None => Ok(None),
+        }
+    }
+
+    /// Makes the definition of a step anew, if it is not ready. Nothing else changes.
+    #[inline(always)]
+    fn make_anew(&mut self, step: Step) -> Result<(), AllocError>
+        ensures lends { OnOk result (Lendable self.new step) }
+        ensures same { (made : Option (List Op)) × (self.new ≡ record self.old { made = made }) }
+        ensures err { OnErr result (IsDefine step) }
+    {
+        match step {
+            Step::Enter { .. } => Ok(()),
+            Step::Define { .. } => {
+                self.made = self.newest_made()?;
+                Ok(())
+            }
+            Step::Record(_) => Ok(()),
+            Step::Leave { .. } => Ok(()),
+        }
+    }
+
+    /// Finds the next event as `next` does, to be lent: its definition is made anew, if it is not ready.
+    pub(crate) fn next_lent<S: Source, V: ValueTaker>(
+        &mut self,
+        alloc: Global,
+        reader: &mut BitReader<S>,
+        limits: &Limits,
+        values: &mut WithFirst<V>,
+    ) -> Result<Option<Step>, Fault>
+        requires live { reader.old.live ≡ true }
+        requires aligned { vec_len self.old.frames ≡ 0 → reader.old.position % 8 ≡ 0 }
+        requires took { TookSome V.took values.old.taker }
+        ensures finds { Has V.took values.new.taker (λ list. FindsNext limits.now self.old
+            reader.old list result self.new reader.new) }
+        ensures keeps { IfOk result (λ found. IfSome found (λ step. KeepsValues step
+            values.old.taker values.new.taker)) }
+        ensures fewer { OnErr result (vec_len self.new.frames ≤ vec_len self.old.frames) }
+        ensures lends { IfOk result (λ found. IfSome found (Lendable self.new)) }
+    {
+        let Some(step) = self.next(alloc, reader, limits, values)? else {
+            return Ok(None);
+        };
+        match self.make_anew(step) {
+            Ok(()) => Ok(Some(step)),
+            Err(_) => Err(reader.fail(Fault::Memory)),
         }
     }
 
@@ -726,7 +788,7 @@ impl Step {
                 first,
                 body,
             }),
-            Step::Define { first, after } => match machine.newest() {
+            Step::Define { first, after } => match machine.newest(&machine.made) {
                 Some(abbrev) => Some(Event::Define {
                     abbrev,
                     first,

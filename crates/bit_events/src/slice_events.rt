@@ -263,7 +263,7 @@ impl<'a> SliceEvents<'a> {
         }
         self.reader
             .catch_up(self.buffered.position() - self.reader.position())?;
-        let Some(step) = self.machine.next(
+        let Some(step) = self.machine.next_lent(
             self.alloc,
             &mut self.reader,
             &self.limits,

@@ -369,6 +369,11 @@ impl<'a> Gatherer for FormBuilder<'a> {
         Ok(())
     }
 
+    #[inline(always)]
+    fn defined(&mut self, _first: u64, _after: u64) -> Result<bool, AllocError> {
+        Ok(true)
+    }
+
     fn define(&mut self, _abbrev: &Abbrev, _first: u64, _after: u64) -> Result<(), AllocError> {
         Ok(())
     }

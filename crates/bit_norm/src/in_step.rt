@@ -647,6 +647,11 @@ impl<'a> Gatherer for Comparer<'a> {
         Ok(())
     }
 
+    fn defined(&mut self, _first: u64, after: u64) -> Result<bool, AllocError> {
+        self.passes_event(after)?;
+        Ok(true)
+    }
+
     fn define(&mut self, _abbrev: &Abbrev, _first: u64, after: u64) -> Result<(), AllocError> {
         self.passes_event(after)?;
         Ok(())

@@ -138,6 +138,11 @@ impl Gatherer for Counter {
         self.open_block(id, first)
     }
 
+    fn defined(&mut self, _first: u64, _after: u64) -> Result<bool, AllocError> {
+        self.count_here(Addition::Definition)?;
+        Ok(true)
+    }
+
     fn define(&mut self, _abbrev: &Abbrev, _first: u64, _after: u64) -> Result<(), AllocError> {
         self.count_here(Addition::Definition)
     }

@@ -21,8 +21,8 @@ returns-clause-made c =
       | else-is_none-via-then-is_none+else-take w ↦ (ap (λ (i : Inside). i.groups) w.self-inside-is, ap (λ (i : Inside). i.later) w.self-inside-is)
       | else-is_none-via-else-is_none w ↦ (ap (λ (i : Inside). i.groups) w.self-inside-is, ap (λ (i : Inside). i.later) w.self-inside-is)
     ] in
-    on_ok_weaker c.add.result (λ more.
-    let new = later_list c.add.new.later in
+    on_ok_weaker c.add_later.result (λ more.
+    let new = later_list c.add_later.new.later in
     let longer = rw kept.1 at more in
     subst (λ (old : InfoMade). table_of (record { ready = c.else-is_none.self-inside.groups.items; later = new }) ≡ defined_at c.args.id c.args.«abbrev» (table_of old.made)) c.self.view_is
-    (rw kept.0 (later_more c.self.inside.groups.items (later_list c.self.inside.later) new c.args.id c.args.«abbrev» longer))) c.add.ensures.list
+    (rw kept.0 (later_more c.self.inside.groups.items (later_list c.self.inside.later) new c.args.id c.args.«abbrev» longer))) c.add_later.ensures.list

@@ -26,27 +26,27 @@ returns-in_err-step c =
     let p = err_from_is_err_and c.from_residual-in_err-step.result c.from_residual-in_err-step.ensures.1 in
     let s = c.self.inside in
     let live = sym c.is_live.ensures ∙ c.if-not-is_live.false in
-    let finds = found_behind s.limits s.machine c.next.new.self s.reader s.buffered c.catch_up.new.self c.next.new.reader c.in_err-step.ensures.finds.0 (c.position.result - c.position-2.result) (Err c.in_err-step.field-0.0) live c.self.invariant (omega (arith, c.position.ensures, c.position-2.ensures.position)) c.in_ok-catch_up.ensures.takes c.in_ok-catch_up.ensures.moves c.in_err-step.ensures.finds.2 in
-    rw (← c.self.view_is, p.1, p.2) (kept_misses s.over s.limits s.head s.machine c.next.new.self s.values.taker c.next.new.values.taker s.found s.buffered.position (reader_seen s.reader s.buffered) c.next.new.reader (reader_seen c.next.new.reader s.buffered) c.in_err-step.field-0.0 c.if-self.false c.in_err-step.ensures.fewer finds (like_seen c.next.new.reader s.buffered))
+    let finds = found_behind s.limits s.machine c.next_lent.new.self s.reader s.buffered c.catch_up.new.self c.next_lent.new.reader c.in_err-step.ensures.finds.0 (c.position.result - c.position-2.result) (Err c.in_err-step.field-0.0) live c.self.invariant (omega (arith, c.position.ensures, c.position-2.ensures.position)) c.in_ok-catch_up.ensures.takes c.in_ok-catch_up.ensures.moves c.in_err-step.ensures.finds.2 in
+    rw (← c.self.view_is, p.1, p.2) (kept_misses s.over s.limits s.head s.machine c.next_lent.new.self s.values.taker c.next_lent.new.values.taker s.found s.buffered.position (reader_seen s.reader s.buffered) c.next_lent.new.reader (reader_seen c.next_lent.new.reader s.buffered) c.in_err-step.field-0.0 c.if-self.false c.in_err-step.ensures.fewer finds (like_seen c.next_lent.new.reader s.buffered))
 
 pub returns-in_default : goal.returns-in_default
 returns-in_default c =
     let s = c.self.inside in
     let live = sym c.is_live.ensures ∙ c.if-not-is_live.false in
-    let given = subst (λ (o : Option Step). FindsNext s.limits s.machine c.catch_up.new.self c.in_ok-step.ensures.finds.0 (Ok o) c.next.new.self c.next.new.reader) c.in_default.is c.in_ok-step.ensures.finds.2 in
-    let finds = found_behind s.limits s.machine c.next.new.self s.reader s.buffered c.catch_up.new.self c.next.new.reader c.in_ok-step.ensures.finds.0 (c.position.result - c.position-2.result) (Ok None) live c.self.invariant (omega (arith, c.position.ensures, c.position-2.ensures.position)) c.in_ok-catch_up.ensures.takes c.in_ok-catch_up.ensures.moves given in
-    rw (← c.self.view_is) (kept_ends s.over true s.limits s.head s.machine c.next.new.self s.values.taker c.next.new.values.taker s.found s.buffered.position s.buffered.position (reader_seen s.reader s.buffered) c.next.new.reader (reader_seen c.next.new.reader s.buffered) c.if-self.false refl (sym (seen_at live c.self.invariant)) refl finds (like_seen c.next.new.reader s.buffered))
+    let given = subst (λ (o : Option Step). FindsNext s.limits s.machine c.catch_up.new.self c.in_ok-step.ensures.finds.0 (Ok o) c.next_lent.new.self c.next_lent.new.reader) c.in_default.is c.in_ok-step.ensures.finds.2 in
+    let finds = found_behind s.limits s.machine c.next_lent.new.self s.reader s.buffered c.catch_up.new.self c.next_lent.new.reader c.in_ok-step.ensures.finds.0 (c.position.result - c.position-2.result) (Ok None) live c.self.invariant (omega (arith, c.position.ensures, c.position-2.ensures.position)) c.in_ok-catch_up.ensures.takes c.in_ok-catch_up.ensures.moves given in
+    rw (← c.self.view_is) (kept_ends s.over true s.limits s.head s.machine c.next_lent.new.self s.values.taker c.next_lent.new.values.taker s.found s.buffered.position s.buffered.position (reader_seen s.reader s.buffered) c.next_lent.new.reader (reader_seen c.next_lent.new.reader s.buffered) c.if-self.false refl (sym (seen_at live c.self.invariant)) refl finds (like_seen c.next_lent.new.reader s.buffered))
 
 pub returns : goal.returns
 returns c =
     let s = c.self.inside in
     let live = sym c.is_live.ensures ∙ c.if-not-is_live.false in
     let next = c.new-self-inside.result in
-    let given = subst (λ (o : Option Step). FindsNext s.limits s.machine c.catch_up.new.self c.in_ok-step.ensures.finds.0 (Ok o) c.next.new.self c.next.new.reader) c.in-Some.is c.in_ok-step.ensures.finds.2 in
-    let finds = found_behind s.limits s.machine c.next.new.self s.reader s.buffered c.catch_up.new.self c.next.new.reader c.in_ok-step.ensures.finds.0 (c.position.result - c.position-2.result) (Ok (Some c.in-Some.step)) live c.self.invariant (omega (arith, c.position.ensures, c.position-2.ensures.position)) c.in_ok-catch_up.ensures.takes c.in_ok-catch_up.ensures.moves given in
-    let there : c.next.new.reader.position ≡ next.position = rw (c.new-self-inside.ensures) c.parts_in_slice.ensures.sees.position in
+    let given = subst (λ (o : Option Step). FindsNext s.limits s.machine c.catch_up.new.self c.in_ok-step.ensures.finds.0 (Ok o) c.next_lent.new.self c.next_lent.new.reader) c.in-Some.is c.in_ok-step.ensures.finds.2 in
+    let finds = found_behind s.limits s.machine c.next_lent.new.self s.reader s.buffered c.catch_up.new.self c.next_lent.new.reader c.in_ok-step.ensures.finds.0 (c.position.result - c.position-2.result) (Ok (Some c.in-Some.step)) live c.self.invariant (omega (arith, c.position.ensures, c.position-2.ensures.position)) c.in_ok-catch_up.ensures.takes c.in_ok-catch_up.ensures.moves given in
+    let there : c.next_lent.new.reader.position ≡ next.position = rw (c.new-self-inside.ensures) c.parts_in_slice.ensures.sees.position in
     let keeps = rw c.in-Some.is at c.in_ok-step.ensures.keeps in
-    let event = subst (λ (list : List ℕ). FindsEvent s.limits s.machine (reader_seen s.reader s.buffered) (step_shown c.next.new.self list c.in-Some.step) c.next.new.self c.next.new.reader) (sym c.in_ok-step.ensures.finds.1) finds.0 in
-    subst (λ (old : Coming). Goes old (Ok (step_lent c.next.new.self c.next.new.values.taker c.in-Some.step)) (coming_of s.over s.limits s.head c.next.new.self c.next.new.values.taker (Some c.in-Some.step) next.position (reader_seen c.next.new.reader next))) c.self.view_is
-    (subst (λ (r : Reader). Goes (coming_of s.over s.limits s.head s.machine s.values.taker s.found s.buffered.position (reader_seen s.reader s.buffered)) (Ok (step_lent c.next.new.self c.next.new.values.taker c.in-Some.step)) (coming_of s.over s.limits s.head c.next.new.self c.next.new.values.taker (Some c.in-Some.step) next.position r)) (sym (nothing_seen c.next.new.reader next there))
-    (kept_goes s.over s.over s.limits s.head s.machine c.next.new.self s.values.taker c.next.new.values.taker s.found c.in-Some.step s.buffered.position next.position (reader_seen s.reader s.buffered) c.next.new.reader c.if-self.false c.if-self.false (sym (seen_at live c.self.invariant)) (sym there) event (values_held (λ (v : List ℕ). v) c.next.new.self c.in-Some.step s.values.taker c.next.new.values.taker keeps) finds.1 (omega (arith, there, c.parts_in_slice.ensures.sees.position, c.parts_in_slice.ensures.lawful.fits))))
+    let event = subst (λ (list : List ℕ). FindsEvent s.limits s.machine (reader_seen s.reader s.buffered) (step_shown c.next_lent.new.self list c.in-Some.step) c.next_lent.new.self c.next_lent.new.reader) (sym c.in_ok-step.ensures.finds.1) finds.0 in
+    subst (λ (old : Coming). Goes old (Ok (step_lent c.next_lent.new.self c.next_lent.new.values.taker c.in-Some.step)) (coming_of s.over s.limits s.head c.next_lent.new.self c.next_lent.new.values.taker (Some c.in-Some.step) next.position (reader_seen c.next_lent.new.reader next))) c.self.view_is
+    (subst (λ (r : Reader). Goes (coming_of s.over s.limits s.head s.machine s.values.taker s.found s.buffered.position (reader_seen s.reader s.buffered)) (Ok (step_lent c.next_lent.new.self c.next_lent.new.values.taker c.in-Some.step)) (coming_of s.over s.limits s.head c.next_lent.new.self c.next_lent.new.values.taker (Some c.in-Some.step) next.position r)) (sym (nothing_seen c.next_lent.new.reader next there))
+    (kept_goes s.over s.over s.limits s.head s.machine c.next_lent.new.self s.values.taker c.next_lent.new.values.taker s.found c.in-Some.step s.buffered.position next.position (reader_seen s.reader s.buffered) c.next_lent.new.reader c.if-self.false c.if-self.false (sym (seen_at live c.self.invariant)) (sym there) event (rw c.in-Some.is at c.in_ok-step.ensures.lends) (values_held (λ (v : List ℕ). v) c.next_lent.new.self c.in-Some.step s.values.taker c.next_lent.new.values.taker keeps) finds.1 (omega (arith, there, c.parts_in_slice.ensures.sees.position, c.parts_in_slice.ensures.lawful.fits))))
