@@ -43,11 +43,6 @@ pub trait Bits {
             (as_reader self.new)) result }
         ensures missed { OnErr result (missed self.old self.new) };
 
-    /// The same for a number whose value is not used.
-    fn pass_vbr(&mut self, n: ChunkWidth) -> Result<u64, Self::Miss>
-        ensures takes { Answers faults (λ r. Takes (vbr n.bits) (as_reader self.old) r
-            (as_reader self.new)) result };
-
     /// Reads a character in six bits and returns its ASCII code. Source: "6-bit characters".
     fn char6(&mut self) -> Result<u64, Self::Miss>
         ensures takes { Answers faults (λ r. Takes char6 (as_reader self.old) r
@@ -117,11 +112,6 @@ impl<'a> Bits for Buffered<'a> {
     }
 
     #[inline(always)]
-    fn pass_vbr(&mut self, n: ChunkWidth) -> Result<u64, NotBuffered> {
-        here(Buffered::pass_vbr(self, n))
-    }
-
-    #[inline(always)]
     fn char6(&mut self) -> Result<u64, NotBuffered> {
         here(Buffered::char6(self))
     }
@@ -166,11 +156,6 @@ impl<S: Source> Bits for BitReader<S> {
 
     #[inline(always)]
     fn vbr(&mut self, n: ChunkWidth) -> Result<u64, Fault> {
-        BitReader::vbr(self, n.bits)
-    }
-
-    #[inline(always)]
-    fn pass_vbr(&mut self, n: ChunkWidth) -> Result<u64, Fault> {
         BitReader::vbr(self, n.bits)
     }
 

@@ -73,22 +73,6 @@ pub(crate) fn read_scalar<B: Bits>(bits: &mut B, op: Op) -> Result<u64, B::Miss>
     }
 }
 
-/// Reads such a field without using its value.
-#[inline(always)]
-#[tactic(auto, unfolding(bit_grammar::specs::Record::scalar, bit_grammar::specs::Fields::vbr))]
-fn skip_scalar<B: Bits>(bits: &mut B, op: Op) -> Result<u64, B::Miss>
-    requires lawful { HasLawfulValue op }
-    requires live { (B.as_reader bits.old).live ≡ true }
-    ensures { Answers B.faults (λ r. Takes (scalar op) (B.as_reader bits.old) r
-        (B.as_reader bits.new)) result }
-{
-    match op {
-        Op::Vbr(0) => Ok(0),
-        Op::Vbr(width) => bits.pass_vbr(ChunkWidth::of(width)),
-        op => read_scalar(bits, op),
-    }
-}
-
 /// Adds `count` zeros, which take no bits, in one call once the value sink accepts it.
 pub(crate) fn read_zeros<B: Bits, V: ValueTaker>(
     bits: &mut B,
@@ -205,7 +189,7 @@ fn skip_singles<B: Bits>(bits: &mut B, ops: &[Op]) -> Result<(), B::Miss>
         (B.as_reader bits.old) (B.as_reader bits.new)) result }
 {
     for op in ops {
-        skip_scalar(bits, *op)?;
+        read_scalar(bits, *op)?;
     }
     Ok(())
 }

@@ -260,7 +260,7 @@ fn skip_numbers(buffered: &mut Buffered<'_>, most: u64, n: ChunkWidth) -> u64
 {
     let mut left = most;
     while left > 0 {
-        let Some(_) = buffered.pass_vbr(n) else {
+        let Some(_) = buffered.vbr(n) else {
             return most - left;
         };
         left -= 1;
@@ -268,7 +268,7 @@ fn skip_numbers(buffered: &mut Buffered<'_>, most: u64, n: ChunkWidth) -> u64
     most
 }
 
-/// Reads bytes. Those after the window go to the value sink as one slice.
+/// Reads bytes. Those after the word go to the value sink as one slice, if they begin at one of its bytes.
 #[inline(always)]
 fn read_bytes<V: ValueTaker>(
     buffered: &mut Buffered<'_>,
@@ -287,7 +287,7 @@ fn read_bytes<V: ValueTaker>(
     Ok(held + bytes.len() as u64)
 }
 
-/// Reads the bytes in the window.
+/// Reads bytes one by one, up to the first one of those after the word.
 #[inline(always)]
 fn read_held_bytes<V: ValueTaker>(
     buffered: &mut Buffered<'_>,
@@ -301,7 +301,10 @@ fn read_held_bytes<V: ValueTaker>(
     ensures refused { OnErr result (Gains V.took values.old values.new Lengthens) }
 {
     for done in 0..most {
-        let Some(value) = buffered.held_byte() else {
+        if buffered.is_at_byte() {
+            return Ok(done);
+        }
+        let Some(value) = buffered.fixed(FieldWidth { bits: 8 }) else {
             return Ok(done);
         };
         values.take(value)?;

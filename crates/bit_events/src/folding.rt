@@ -69,13 +69,11 @@ fn hand_on<G: Gatherer>(
     }
 }
 
-/// Gathers completely buffered records of the innermost block from a bit on, possibly none, and returns the bit after them. Whether
-/// the last ones are read depends on where the window ends: so it ends at `loaded`, as that of an exact reader.
+/// Gathers completely buffered records of the innermost block from a bit on, possibly none, and returns the bit after them.
 #[inline(always)]
 fn gather_innermost<G: Gatherer>(
     parts: BufferedParts<'_>,
     first: u64,
-    loaded: u64,
     machine: &mut Machine,
     limits: &Limits,
     gatherer: &mut G,
@@ -101,7 +99,7 @@ fn gather_innermost<G: Gatherer>(
         return Ok(first);
     }
     let used = &mut machine.used;
-    gather_records(parts, first, loaded, frame, limits, used, gatherer, values)
+    gather_records(parts, first, frame, limits, used, gatherer, values)
 }
 
 /// How many bits must be buffered for the beginning or the end of a block to be read from the buffer: more than 64 after the longest
@@ -136,7 +134,7 @@ fn gather_buffered<G: Gatherer>(
     let mut first = parts.position();
     *loaded = parts.loaded();
     loop {
-        first = gather_innermost(parts, first, *loaded, machine, limits, gatherer, values)?;
+        first = gather_innermost(parts, first, machine, limits, gatherer, values)?;
         *loaded = loaded_at(first, *loaded);
         let Some(bits) = PlacedBits::new(parts, first) else {
             return Ok(first);

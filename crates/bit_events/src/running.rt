@@ -293,9 +293,9 @@ fn pass_placed<G: Gatherer>(
     })
 }
 
-/// The buffered bits from a bit on, with a window that ends at `loaded`.
+/// The buffered bits from a bit on.
 #[inline(always)]
-pub(crate) fn buffered_from<'a>(parts: BufferedParts<'a>, first: u64, loaded: u64) -> Buffered<'a>
+fn buffered_from<'a>(parts: BufferedParts<'a>, first: u64) -> Buffered<'a>
     requires lawful { AreParts parts }
     requires least { (bits_of_parts parts).position ≤ first }
     requires there { first - (bits_of_parts parts).position ≤ length (bits_of_parts parts).bits }
@@ -304,7 +304,6 @@ pub(crate) fn buffered_from<'a>(parts: BufferedParts<'a>, first: u64, loaded: u6
 {
     let mut buffered = Buffered::new(parts);
     buffered.skip(first - parts.position());
-    buffered.divide(parts, loaded);
     buffered
 }
 
@@ -314,7 +313,6 @@ pub(crate) fn buffered_from<'a>(parts: BufferedParts<'a>, first: u64, loaded: u6
 pub(crate) fn gather_records<G: Gatherer>(
     parts: BufferedParts<'_>,
     start: u64,
-    loaded: u64,
     frame: &Frame,
     limits: &Limits,
     used: &mut u64,
@@ -339,18 +337,14 @@ pub(crate) fn gather_records<G: Gatherer>(
     if run.is_over {
         return Ok(run.after);
     }
-    gather_on(
-        parts, run.after, loaded, frame, limits, used, gatherer, values,
-    )
+    gather_on(parts, run.after, frame, limits, used, gatherer, values)
 }
 
-/// The same, if the next record is odd. Whether the last ones are read depends on where the window ends: so it ends at `loaded`, as
-/// that of an exact reader.
+/// The same, if the next record is odd.
 #[inline(never)]
 fn gather_on<G: Gatherer>(
     parts: BufferedParts<'_>,
     start: u64,
-    loaded: u64,
     frame: &Frame,
     limits: &Limits,
     used: &mut u64,
@@ -371,11 +365,9 @@ fn gather_on<G: Gatherer>(
         gatherer.old gatherer.new) }
 {
     let mut first = start;
-    let mut window = loaded;
     let plans = frame.definitions.plans();
     loop {
-        window = loaded_at(first, window);
-        let buffered = buffered_from(parts, first, window);
+        let buffered = buffered_from(parts, first);
         let run = gather_odd(buffered, frame, limits, used, gatherer, values)?;
         first = run.after;
         if run.is_over {

@@ -41,3 +41,4 @@ pub mod WrittenSixes
 pub mod SixRows
 pub mod SixValues
 pub mod SixLoads
+pub mod Loads

@@ -5,18 +5,19 @@ use Rattle.std.specs.Int.{w64, bit_at, bit_not, trailing_zeros}
 use Rattle.std.proofs.lemmas.Bool.{cases_lt, eqb-true, eq-eqb, ltb-true}
 use Rattle.std.proofs.lemmas.List.{take-append-drop}
 use Rattle.std.proofs.lemmas.Nat.{and_le_l, and_mask, mod_below, mul-le, mul-add-lt, one_shl, pow-add, pow_pos, shl_whole, shr-shr}
-use Rattle.std.proofs.lemmas.Nat.Bits.{bit_at_not, bit_at-lt}
+use Rattle.std.proofs.lemmas.Nat.Bits.{bit_at_and, bit_at_not, bit_at-lt}
 use Rattle.bit_grammar.specs.Bits.{bits_of}
 use Rattle.bit_grammar.specs.Grammar.{reading}
 use Rattle.bit_grammar.specs.Fields.{vbr}
 use Rattle.bit_grammar.proofs.Readings.Deciding.{reads, is_spelled}
 use Rattle.bit_grammar.proofs.Words.Fields.{is_vbr, vbr_is}
 use Rattle.bit_fields.specs.Buffered.{BufferedBits, Reads, beyond}
+use Rattle.bit_fields.specs.Loaded.{NumberEnds}
 use Rattle.bit_fields.specs.Pens.{TakesNumber}
-use Rattle.bit_fields.specs.Placed.{AreTops, bits_at}
+use Rattle.bit_fields.specs.Placed.{AreTops, Shows, bits_at}
 use Rattle.bit_fields.specs.Short.{EndsChunks, payload_number}
 use Rattle.bit_fields.specs.SixBits.{HasCount}
-use Rattle.bit_fields.specs.declared.placed.numbers.TheConstants.{TOPS_OF}
+use Rattle.bit_fields.specs.declared.placed.first.TheConstants.{TOPS_OF}
 use Rattle.bit_fields.proofs.BufferedReads.{reads_there}
 use Rattle.bit_fields.proofs.EndMarks.{Marks, chunks_read, ends_marked, split_low}
 use Rattle.bit_fields.proofs.Placing.{marks_of, or_above}
@@ -78,13 +79,6 @@ listed_tops n two few =
 
 -- ---- the end of a number
 
--- a number of chunks of n bits, so many bits long, is at the low end of a word
-pub record NumberEnds (n len word : ℕ) : Type 0 where
-  pub count : ℕ
-  pub whole : len ≡ suc count * n
-  pub short : len ≤ 57
-  pub ends : EndsChunks (n - 1) (suc count) word
-
 width : (n : ℕ) → 2 ≤ n → suc (n - 1) ≡ n
 width n two = omega (arith, two)
 
@@ -121,6 +115,24 @@ number_ends n tops ends len two are fits some len_is =
     positive : (x : ℕ) → (x ≡ 0 → ⊥) → 0 < x
     positive zero none = absurd (none refl)
     positive (suc x) none = omega arith
+
+-- its last bit is shown
+pub top_set : (tops ends : ℕ) → ends < 2 ^ 64 → (bit_and ends tops ≡ 0 → ⊥) → bit_at ends (trailing_zeros w64 (bit_and ends tops) + 1 - 1) ≡ 1
+top_set tops ends fits some =
+    let mask : ℕ = bit_and ends tops in
+    let low = split_low mask mask (omega arith) (positive mask some) in
+    let place : trailing_zeros w64 mask + 1 - 1 ≡ low.0 = omega (arith, lowest_is mask low.0 low.1 (omega (arith, and_le_l ends tops, fits)) low.2) in
+    subst (λ (i : ℕ). bit_at ends i ≡ 1) (sym place) (omega (arith, bit_at_and ends tops low.0, low_set mask low.0 low.1 low.2, bit_at-lt ends low.0, bit_at-lt tops low.0))
+  where
+    positive : (x : ℕ) → (x ≡ 0 → ⊥) → 0 < x
+    positive zero none = absurd (none refl)
+    positive (suc x) none = omega arith
+
+-- the bits up to there
+pub first_read : (ends len : ℕ) (a : BufferedBits) → 0 < len → Shows ends a.bits → bit_at ends (len - 1) ≡ 1 → bits_of len (bit_not w64 ends) ≡ take len a.bits
+first_read ends len a some shows set =
+    let next : suc (len - 1) ≡ len = omega (arith, some) in
+    subst (λ (k : ℕ). bits_of k (bit_not w64 ends) ≡ take k a.bits) next (shows.front (len - 1) set)
 
 -- ---- payloads, one above another
 

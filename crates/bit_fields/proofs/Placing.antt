@@ -36,7 +36,7 @@ not_there x i k below le =
     let none : x / 2 ^ i ≡ 0 = div-eq_of_lt (omega (arith, below, wide)) in
     ap (λ (y : ℕ). y % 2) none
 
-below_top : (x i k : ℕ) → x < 2 ^ k → bit_at x i ≡ 1 → i < k
+pub below_top : (x i k : ℕ) → x < 2 ^ k → bit_at x i ≡ 1 → i < k
 below_top x i k below set = elim (cases_lt i k) [ inl lt ↦ lt | inr le ↦ absurd (omega (arith, set, not_there x i k below le)) ]
 
 -- ---- the top bits of chunks
@@ -155,7 +155,7 @@ pub eight_there : (at : ℕ) (bytes : List ℕ) → 64 ≤ length (drop at (bits
 eight_there at bytes there = omega (arith, ap length (left_after (at / 8) bytes), length-drop (at / 8) bytes, length_at at bytes, there)
 
 -- the bits after whole bytes, and a part of a byte
-behind_bytes : (at : ℕ) (bytes : List ℕ) → at ≤ 8 * length bytes → drop (at % 8) (bits_of_bytes (take (length bytes - at / 8) (drop (at / 8) bytes))) ≡ drop at (bits_of_bytes bytes)
+pub behind_bytes : (at : ℕ) (bytes : List ℕ) → at ≤ 8 * length bytes → drop (at % 8) (bits_of_bytes (take (length bytes - at / 8) (drop (at / 8) bytes))) ≡ drop at (bits_of_bytes bytes)
 behind_bytes at bytes there =
     let place : 8 * (at / 8) + at % 8 ≡ at = omega arith in
     ap (λ (xs : List ℕ). drop (at % 8) (bits_of_bytes xs)) (sym (left_after (at / 8) bytes)) ∙ ap (drop (at % 8)) (bytes_dropped (at / 8) bytes (omega (arith, there))) ∙ drop_more (8 * (at / 8)) (at % 8) (bits_of_bytes bytes) ∙ ap (λ (k : ℕ). drop k (bits_of_bytes bytes)) place
@@ -189,7 +189,7 @@ not_behind ends n i fits lt =
     let small : ends / 2 ^ n < 2 ^ 64 = omega (arith, shr_le ends n, fits) in
     bit_at_not w64 (ends / 2 ^ n) i small (omega (arith, lt)) ∙ ap (λ (b : ℕ). 1 - b) (bit_behind ends n i) ∙ sym (bit_at_not w64 ends (n + i) fits lt) ∙ sym (bit_behind (bit_not w64 ends) n i)
 
-front_after : (n more ends : ℕ) (s : List Bool) → ends < 2 ^ 64 → n + more ≤ 64 → bits_of (n + more) (bit_not w64 ends) ≡ take (n + more) s → bits_of more (bit_not w64 (ends / 2 ^ n)) ≡ take more (drop n s)
+pub front_after : (n more ends : ℕ) (s : List Bool) → ends < 2 ^ 64 → n + more ≤ 64 → bits_of (n + more) (bit_not w64 ends) ≡ take (n + more) s → bits_of more (bit_not w64 (ends / 2 ^ n)) ≡ take more (drop n s)
 front_after n more ends s fits few is =
     same_bits more (bit_not w64 (ends / 2 ^ n)) (bit_not w64 ends / 2 ^ n) (λ i lt. not_behind ends n i fits (omega (arith, lt, few)))
     ∙ sym (drop-bits_of n more (bit_not w64 ends)) ∙ ap (drop n) is ∙ drop-take n more s

@@ -11,7 +11,8 @@ use Rattle.bit_fields.specs.Placed.{Shows}
 use Rattle.bit_fields.specs.Short.{payload_number}
 use Rattle.bit_fields.proofs.BitLaws.{drop-bits_of}
 use Rattle.bit_fields.proofs.EndMarks.{Marks, behind_first, bit_behind, ends_marked, lowest_gone, split_low}
-use Rattle.bit_fields.proofs.PlacedNumbers.{NumberEnds, few_taken, listed_tops}
+use Rattle.bit_fields.specs.Loaded.{NumberEnds}
+use Rattle.bit_fields.proofs.PlacedNumbers.{few_taken, listed_tops}
 use Rattle.bit_fields.proofs.Placing.{marks_of}
 use Rattle.bit_fields.proofs.SixBitSums.{low_set, lowest_is, tops}
 use Rattle.bit_fields.proofs.SixValues.{six_read}

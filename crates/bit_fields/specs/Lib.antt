@@ -18,4 +18,5 @@ pub mod Expected
 pub mod SixBits
 pub mod Placed
 pub mod PlacedView
+pub mod Loaded
 pub mod Pens

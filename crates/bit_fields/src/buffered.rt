@@ -1,16 +1,24 @@
 ghost use Rattle.std.specs.Prelude.{ℕ, ◌≡◌, ◌+◌, ◌*◌, ◌-◌, ◌%◌, ◌<◌, ◌≤◌, ◌^◌, ◌++◌, length, take, drop, get_or, IfSome, OnSome, MatchOption, IfNone};
-ghost use Rattle.bit_grammar.specs.Bits.{bits_of, number, bits_of_bytes};
+ghost use Rattle.std.specs.Int.{w64, bit_not};
+ghost use Rattle.bit_grammar.specs.Bits.{bits_of, bits_of_bytes};
 ghost use Rattle.bit_grammar.specs.Grammar.{repeat};
 ghost use Rattle.bit_grammar.specs.Fields.{fixed, vbr, char6, align32};
 ghost use Rattle.bit_fields.specs.Inside.{part_of, numbers};
 ghost use Rattle.bit_fields.specs.Buffered.{Reads, beyond};
 ghost use Rattle.bit_fields.specs.BufferedParts.{bits_of_parts, AreParts};
+ghost use Rattle.bit_fields.specs.Loaded.{Holds};
+ghost use Rattle.bit_fields.specs.PlacedView.{placed};
 
-use crate::numbers::{MOST_SHORT, character, payload_of, worth_at};
+use crate::numbers::{character, payload_of, worth_at};
+use crate::placed::PlacedBits;
+use crate::placed::first::{TOPS_OF, first_number};
 use crate::width::{ChunkWidth, FieldWidth};
 use crate::window::Window;
-use crate::word::{eight_of, four_of, word_of};
+use crate::word::four_of;
 use std::marker::Model;
+
+/// The bits of a load that are there in any case.
+const LOADED: u64 = (1 << 57) - 1;
 
 /// Buffered bits of a stream, as a reader lends them: the low bits of a word, how many they are, the bytes after them, and the
 /// position of the first bit.
@@ -47,113 +55,45 @@ impl<'a> BufferedParts<'a> {
 /// Buffered bits of a stream, from the reader's position on. The reader has not taken them yet. A field is read from here in a few
 /// instructions; `BitReader::catch_up` then takes the bits that were read.
 ///
-/// `None` is no refusal: the field is not complete here, or it is long or odd, and the reader itself must read it. The buffer must
-/// not be used after a `None`.
+/// `None` is no refusal: the field is not complete here, or it is odd, and the reader itself must read it. The buffer must not be
+/// used after a `None`.
 #[derive(Drop)]
 pub struct Buffered<'a> {
-    window: Window,
-    /// The bytes after the window.
-    bytes: &'a [u8],
-    /// The position after these bytes.
-    end: u64,
+    parts: BufferedParts<'a>,
+    /// How many bits of the parts come before these.
+    at: u64,
+    /// How many come before the first one that is not loaded.
+    loaded: u64,
+    /// The complement of the loaded bits, and zeros above them.
+    ends: u64,
 }
 
 impl<'a> Model for Buffered<'a> {
-    ghost use Rattle.std.specs.Prelude.{◌+◌, ◌*◌, ◌-◌, ◌≤◌, ◌++◌, length};
-    ghost use Rattle.bit_grammar.specs.Bits.{bits_of_bytes};
-    ghost use Rattle.bit_fields.specs.Buffered.{BufferedBits};
+    ghost use Rattle.bit_fields.specs.Buffered.{BufferedBits, beyond};
+    ghost use Rattle.bit_fields.specs.BufferedParts.{bits_of_parts};
+    ghost use Rattle.bit_fields.specs.Loaded.{AreLoaded};
 
     ghost Value = { BufferedBits };
 
-    ghost view = { λ a. record {
-      position = a.end - (length a.window + 8 * length a.bytes.now);
-      bits = a.window ++ bits_of_bytes a.bytes.now;
-    } };
+    ghost view = { λ a. beyond (bits_of_parts a.parts) a.at };
 
-    ghost invariant = { λ a. length a.window + 8 * length a.bytes.now ≤ a.end };
+    ghost invariant = { λ a. AreLoaded a.parts a.at a.loaded a.ends };
 }
 
 impl<'a> Buffered<'a> {
-    /// The buffered bits that a reader lends.
+    /// The buffered bits that a reader lends. Those in the word are loaded.
     #[inline(always)]
     pub fn new(buffered_parts: BufferedParts<'a>) -> Buffered<'a>
         requires { AreParts buffered_parts }
         ensures { result ≡ bits_of_parts buffered_parts.entry }
     {
-        let end = buffered_parts.position
-            + (u64::from(buffered_parts.held) + 8 * buffered_parts.bytes.len() as u64);
+        // of 64 bits none counts as loaded
+        let held = buffered_parts.held & 63;
         Buffered {
-            window: Window::of(buffered_parts.word, buffered_parts.held),
-            bytes: buffered_parts.bytes,
-            end,
-        }
-    }
-
-    /// Bytes whose first bit is at a position.
-    #[inline(always)]
-    pub(crate) fn of(bytes: &'a [u8], position: u64) -> Buffered<'a>
-        requires { position + 8 * length bytes.now < 2 ^ 64 }
-        ensures { result ≡ record { position = position; bits = bits_of_bytes bytes.now } }
-    {
-        Buffered {
-            window: Window::new(),
-            bytes,
-            end: position + 8 * bytes.len() as u64,
-        }
-    }
-
-    /// Moves the border between the window and the bytes after it to `loaded`, where a reader has it that has loaded the bytes before.
-    /// It is at most 64 bits away, and 64 more bits are there; else the border may lie elsewhere.
-    #[inline(always)]
-    pub fn divide(&mut self, buffered_parts: BufferedParts<'a>, loaded: u64)
-        requires lawful { AreParts buffered_parts }
-        requires few { self.old.position - buffered_parts.position
-            ≤ length (bits_of_parts buffered_parts).bits }
-        requires here { self.old ≡ beyond (bits_of_parts buffered_parts)
-            (self.old.position - buffered_parts.position) }
-        ensures { self.new ≡ self.old }
-    {
-        if self.loaded() == loaded {
-            return;
-        }
-        let first = self.position();
-        let bits = first.saturating_sub(buffered_parts.position);
-        *self = Buffered::after(buffered_parts, bits, loaded.wrapping_sub(first));
-    }
-
-    /// The bits after the first `bits`, with `held` of them in the window.
-    #[inline(always)]
-    fn after(buffered_parts: BufferedParts<'a>, bits: u64, held: u64) -> Buffered<'a>
-        requires lawful { AreParts buffered_parts }
-        requires there { bits ≤ length (bits_of_parts buffered_parts).bits }
-        ensures { result ≡ beyond (bits_of_parts buffered_parts.entry) bits }
-    {
-        let mut buffered = Buffered::new(buffered_parts);
-        buffered.skip(bits);
-        buffered.hold(held);
-        buffered
-    }
-
-    /// The position after the bits in the window. What is read does not depend on it, so no clause says more.
-    #[inline(always)]
-    pub fn loaded(&self) -> u64
-        ensures least { self.now.position ≤ result }
-        ensures most { result ≤ self.now.position + 64 }
-    {
-        // The window has at most 64 bits.
-        let _held = self.window.len();
-        self.end - 8 * self.bytes.len() as u64
-    }
-
-    /// Moves whole bytes into the window until it has `held` bits, at most 64, if eight bytes are there.
-    #[inline(always)]
-    fn hold(&mut self, held: u64)
-        ensures { self.new ≡ self.old }
-    {
-        let len = u64::from(self.window.len());
-        if len < held && held <= 64 && self.bytes.len() >= 8 {
-            let count = ((held - len) / 8) as usize;
-            self.bytes = load_some(&mut self.window, self.bytes, count);
+            parts: buffered_parts,
+            at: 0,
+            loaded: u64::from(held),
+            ends: !buffered_parts.word & ((1 << held) - 1),
         }
     }
 
@@ -162,19 +102,98 @@ impl<'a> Buffered<'a> {
     pub fn position(&self) -> u64
         ensures { result ≡ self.now.position }
     {
-        self.end - (u64::from(self.window.len()) + 8 * self.bytes.len() as u64)
+        self.parts.position + self.at
     }
 
-    /// Moves four bytes into the window, if it has fewer than 32 bits and the bytes are there.
+    /// How many bits are buffered.
     #[inline(always)]
-    fn fill(&mut self)
+    pub fn len(&self) -> u64
+        ensures { result ≡ length self.now.bits }
+    {
+        u64::from(self.parts.held) + 8 * self.parts.bytes.len() as u64 - self.at
+    }
+
+    /// Skips `bits` bits, which are buffered.
+    #[inline(always)]
+    pub fn skip(&mut self, bits: u64)
+        requires { bits ≤ length self.old.bits }
+        ensures skipped { self.new ≡ beyond self.old bits }
+        ensures moves { self.new.position ≡ self.old.position + bits }
+    {
+        self.at += bits;
+        self.loaded = self.at;
+        self.ends = 0;
+    }
+
+    /// A copy.
+    #[inline(always)]
+    pub fn copy(&self) -> Buffered<'a>
+        ensures { result ≡ self.now }
+    {
+        Buffered {
+            parts: self.parts,
+            at: self.at,
+            loaded: self.loaded,
+            ends: self.ends,
+        }
+    }
+
+    /// The same bits as placed bits, if they are after the word and 64 are there.
+    #[inline(always)]
+    fn near(&self) -> Option<PlacedBits<'a>>
+        ensures same { IfSome result (λ bits. placed bits ≡ self.now) }
+        ensures there { IfSome result (λ bits. 64 ≤ length (placed bits).bits) }
+    {
+        let bits = PlacedBits::new(self.parts, self.position())?;
+        if !bits.has(64) {
+            return None;
+        }
+        Some(bits)
+    }
+
+    /// Loads the next bits: 32 or more, if they are there.
+    #[inline(always)]
+    fn load(&mut self)
         ensures { self.new ≡ self.old }
     {
-        if self.window.len() < 32 {
-            if let Some(rest) = load(&mut self.window, self.bytes) {
-                self.bytes = rest;
-            }
+        if let Some(bits) = self.near() {
+            self.ends = bits.ends() & LOADED;
+            self.loaded = self.at + 57;
+            return;
         }
+        let parts = self.parts;
+        let (ends, count) = load_apart(parts.bytes, parts.word, parts.held, self.at);
+        self.ends = ends;
+        self.loaded = self.at + u64::from(count);
+    }
+
+    /// Loads the next bits, if fewer than n are loaded.
+    #[inline(always)]
+    fn fill(&mut self, n: u32)
+        ensures { self.new ≡ self.old }
+    {
+        if self.loaded - self.at < u64::from(n) {
+            self.load();
+        }
+    }
+
+    /// Takes n bits, if they are loaded.
+    #[inline(always)]
+    fn loaded_part(&mut self, n: u32) -> Option<u64>
+        requires { n ≤ 32 }
+        ensures reads { IfSome result (λ value. (first : ℕ)
+            → Reads (part_of first n) self.old value self.new) }
+        ensures below { IfSome result (λ value. value < 2 ^ n) }
+        ensures moves { OnSome result (self.new.position ≡ self.old.position + n) }
+        ensures stays { IfNone result (self.new ≡ self.old) }
+    {
+        if self.loaded - self.at < u64::from(n) {
+            return None;
+        }
+        let value = !self.ends & ((1 << n) - 1);
+        self.at += u64::from(n);
+        self.ends >>= n;
+        Some(value)
     }
 
     /// Takes n bits, a part of a field.
@@ -187,24 +206,8 @@ impl<'a> Buffered<'a> {
         ensures moves { OnSome result (self.new.position ≡ self.old.position + n) }
         ensures stays { IfNone result (self.new ≡ self.old) }
     {
-        self.fill();
-        self.held_part(n)
-    }
-
-    /// Takes n bits, if they are in the window.
-    #[inline(always)]
-    fn held_part(&mut self, n: u32) -> Option<u64>
-        requires { n ≤ 32 }
-        ensures reads { IfSome result (λ value. (first : ℕ)
-            → Reads (part_of first n) self.old value self.new) }
-        ensures below { IfSome result (λ value. value < 2 ^ n) }
-        ensures moves { OnSome result (self.new.position ≡ self.old.position + n) }
-        ensures stays { IfNone result (self.new ≡ self.old) }
-    {
-        if self.window.len() < n {
-            return None;
-        }
-        Some(self.window.take(n))
+        self.fill(n);
+        self.loaded_part(n)
     }
 
     /// Reads a number of n bits, n from 1 to 32, the lowest bit first. Source: "Fixed Width Integers".
@@ -237,34 +240,41 @@ impl<'a> Buffered<'a> {
         ensures moves { OnSome result (self.old.position + n.bits ≤ self.new.position) }
         ensures stays { IfNone result (self.new ≡ self.old) }
     {
-        self.fill();
         match self.one_chunk(n) {
             Some(value) => Some(value),
             None => self.longer_vbr(n),
         }
     }
 
-    /// Reads such a number without testing first for one chunk. That takes a few instructions more if the value is used, but no
-    /// instruction waits for the value if it is not.
+    /// Takes a number of one chunk of n bits, if it is loaded. Most numbers are such.
     #[inline(always)]
-    pub fn pass_vbr(&mut self, n: ChunkWidth) -> Option<u64>
-        ensures reads { IfSome result (λ value. Reads (vbr n.bits) self.old value self.new) }
-        ensures moves { OnSome result (self.old.position + n.bits ≤ self.new.position) }
-        ensures stays { IfNone result (self.new ≡ self.old) }
+    fn one_chunk(&mut self, n: ChunkWidth) -> Option<u64>
+        ensures reads { MatchOption result (self.new ≡ self.old)
+            (λ value. Reads (vbr n.bits) self.old value self.new) }
+        ensures moves { OnSome result (self.new.position ≡ self.old.position + n.bits) }
     {
-        self.fill();
-        self.longer_vbr(n)
+        if self.ends >> (n.bits - 1) & 1 == 0 {
+            return None;
+        }
+        let value = !self.ends & ((1 << (n.bits - 1)) - 1);
+        self.at += u64::from(n.bits);
+        self.ends >>= n.bits;
+        Some(value)
     }
 
-    /// Reads a number that may be longer than one chunk of n bits.
+    /// Reads a number that may be longer or not loaded yet.
     #[inline(always)]
     fn longer_vbr(&mut self, n: ChunkWidth) -> Option<u64>
         ensures reads { IfSome result (λ value. Reads (vbr n.bits) self.old value self.new) }
         ensures moves { OnSome result (self.old.position + n.bits ≤ self.new.position) }
         ensures stays { IfNone result (self.new ≡ self.old) }
     {
-        if let Some(value) = self.few_chunks(n) {
+        self.fill_number(n);
+        if let Some(value) = self.loaded_vbr(n) {
             return Some(value);
+        }
+        if self.is_loaded() {
+            return None;
         }
         let (value, bits) = self.copy().far_vbr(n);
         if bits == 0 {
@@ -274,39 +284,40 @@ impl<'a> Buffered<'a> {
         Some(value)
     }
 
-    /// Takes a number of one chunk of n bits, if it is in the window. Most numbers are such.
+    /// Loads the next bits, if no number in chunks of n bits is loaded.
     #[inline(always)]
-    fn one_chunk(&mut self, n: ChunkWidth) -> Option<u64>
-        ensures reads { MatchOption result (self.new ≡ self.old)
-            (λ value. Reads (vbr n.bits) self.old value self.new) }
-        ensures moves { OnSome result (self.new.position ≡ self.old.position + n.bits) }
+    fn fill_number(&mut self, n: ChunkWidth)
+        ensures { self.new ≡ self.old }
     {
-        if self.window.len() < n.bits || self.window.peek(n.bits) >= 1 << (n.bits - 1) {
-            return None;
+        if self.ends & TOPS_OF[n.bits as usize] == 0 {
+            self.load();
         }
-        Some(self.window.take(n.bits))
     }
 
-    /// Takes a number in chunks of n bits, if it has at most four chunks and all are in the window.
+    /// Whether all bits are loaded. Only speed depends on it.
     #[inline(always)]
-    fn few_chunks(&mut self, n: ChunkWidth) -> Option<u64>
+    fn is_loaded(&self) -> bool {
+        self.loaded - self.at == self.len()
+    }
+
+    /// Takes a number in chunks of n bits, if it is loaded.
+    #[inline(always)]
+    fn loaded_vbr(&mut self, n: ChunkWidth) -> Option<u64>
         ensures reads { MatchOption result (self.new ≡ self.old)
             (λ value. Reads (vbr n.bits) self.old value self.new) }
         ensures moves { OnSome result (self.old.position + n.bits ≤ self.new.position) }
     {
-        if n.bits > MOST_SHORT {
+        let (value, len) = first_number(self.ends, n.bits);
+        if len == 0 {
             return None;
         }
-        let bits = self.window.number_bits(n.bits);
-        if bits > self.window.len() {
-            return None;
-        }
-        Some(self.window.take_number(n.bits, bits))
+        self.at += u64::from(len);
+        self.ends >>= len;
+        Some(value)
     }
 
-    /// Reads a number in chunks of n bits that is not complete in the window or has more than four chunks. Returns the number and
-    /// its width in bits, or a width of 0 if it declines. It takes the buffer by value, so that its callers keep theirs in
-    /// registers, and its result fits two registers.
+    /// Reads a number in chunks of n bits that a load does not have. Returns the number and its width in bits, or a width of 0 if it
+    /// declines. It takes the buffer by value, so that its callers keep theirs in registers, and its result fits two registers.
     #[cold]
     #[inline(never)]
     pub(crate) fn far_vbr(self, n: ChunkWidth) -> (u64, u64)
@@ -344,8 +355,7 @@ impl<'a> Buffered<'a> {
         None
     }
 
-    /// Reads zeros up to the next position that is a multiple of 32, possibly none. Source: "Abbreviation IDs", align32. If all of
-    /// them are in the window, it is not refilled: it is then often empty after them, as `bytes` needs it.
+    /// Reads zeros up to the next position that is a multiple of 32, possibly none. Source: "Abbreviation IDs", align32.
     #[inline(always)]
     pub fn pad(&mut self) -> Option<()>
         ensures reads { OnSome result (Reads align32 self.old tt self.new) }
@@ -353,28 +363,21 @@ impl<'a> Buffered<'a> {
         ensures moves { OnSome result (self.old.position ≤ self.new.position) }
     {
         let count = ((32 - self.position() % 32) % 32) as u32;
-        if self.window.len() < count {
-            self.fill();
-        }
-        let zeros = self.held_part(count)?;
+        let zeros = self.part(count)?;
         if zeros != 0 {
             return None;
         }
         Some(())
     }
 
-    /// Reads a number of 8 bits, if they are in the window. The window is not refilled.
+    /// Whether the next bits are bytes of those after the word. Only speed depends on it.
     #[inline(always)]
-    pub fn held_byte(&mut self) -> Option<u64>
-        ensures reads { IfSome result (λ value. Reads (fixed 8) self.old value self.new) }
-        ensures moves { OnSome result (self.new.position ≡ self.old.position + 8) }
-        ensures stays { IfNone result (self.new ≡ self.old) }
-    {
-        let value = self.held_part(8)?;
-        Some(value)
+    pub fn is_at_byte(&self) -> bool {
+        let held = u64::from(self.parts.held);
+        self.at >= held && (self.at - held) % 8 == 0
     }
 
-    /// Reads at most `most` numbers of 8 bits, as the bytes after the window; none if the window has bits.
+    /// Reads at most `most` numbers of 8 bits, as bytes of those after the word; none if the next bits are no such bytes.
     #[inline(always)]
     pub fn bytes(&mut self, most: u64) -> &'a [u8]
         ensures reads { Reads (repeat (length result.now) (fixed 8)) self.old result.now
@@ -382,22 +385,15 @@ impl<'a> Buffered<'a> {
         ensures most { length result.now ≤ most }
         ensures moves { self.new.position ≡ self.old.position + 8 * length result.now }
     {
-        if self.window.len() > 0 {
+        let held = u64::from(self.parts.held);
+        if self.at < held || (self.at - held) % 8 != 0 {
             return &[];
         }
-        are_bytes(self.bytes);
-        let count = self.bytes.len().min(most as usize);
-        let bytes = &self.bytes[..count];
-        self.bytes = &self.bytes[count..];
-        bytes
-    }
-
-    /// How many bits are buffered.
-    #[inline(always)]
-    pub fn len(&self) -> u64
-        ensures { result ≡ length self.now.bits }
-    {
-        self.end - self.position()
+        let rest = &self.parts.bytes[((self.at - held) / 8) as usize..];
+        are_bytes(rest);
+        let count = rest.len().min(most as usize);
+        self.skip(8 * count as u64);
+        &rest[..count]
     }
 
     /// Skips fields of n bits, n from 1 to 32, whatever they are: all that are complete here, at most `most`. Returns how many.
@@ -418,39 +414,6 @@ impl<'a> Buffered<'a> {
         };
         self.skip(count * width);
         count
-    }
-
-    /// Skips `bits` bits, which are buffered.
-    #[inline(always)]
-    pub fn skip(&mut self, bits: u64)
-        requires { bits ≤ length self.old.bits }
-        ensures skipped { self.new ≡ beyond self.old bits }
-        ensures moves { self.new.position ≡ self.old.position + bits }
-    {
-        let held = u64::from(self.window.len());
-        if bits < held {
-            self.window.split(bits as u32);
-            return;
-        }
-        let behind = bits - held;
-        let (window, bytes) = rest_of_byte(
-            &self.bytes[(behind / 8) as usize..],
-            (behind % 8) as u32,
-        );
-        self.window = window;
-        self.bytes = bytes;
-    }
-
-    /// A copy.
-    #[inline(always)]
-    pub fn copy(&self) -> Buffered<'a>
-        ensures { result ≡ self.now }
-    {
-        Buffered {
-            window: self.window.copy(),
-            bytes: self.bytes,
-            end: self.end,
-        }
     }
 }
 
@@ -476,38 +439,79 @@ fn rest_of_byte(bytes: &[u8], n: u32) -> (Window, &[u8])
     (window, &bytes[1..])
 }
 
-/// Moves the next four bytes into a window, and returns the bytes after them.
+/// The bits after the first `at` of a word and the bytes after it, as a window and bytes.
 #[inline(always)]
-fn load<'a>(window: &mut Window, bytes: &'a [u8]) -> Option<&'a [u8]>
-    requires { length window.old ≤ 32 }
-    ensures same { IfSome result (λ rest. window.new ++ bits_of_bytes rest.now
-        ≡ window.old ++ bits_of_bytes bytes.now) }
-    ensures longer { OnSome result (length window.new ≡ length window.old + 32) }
-    ensures fewer { IfSome result (λ rest. length bytes.now ≡ 4 + length rest.now) }
-    ensures none { IfNone result (window.new ≡ window.old) }
-    ensures short { IfNone result (length bytes.now < 4) }
+fn rest_of<'a>(bytes: &'a [u8], word: u64, held: u32, at: u64) -> (Window, &'a [u8])
+    requires below { word < 2 ^ held }
+    requires most { held ≤ 64 }
+    requires there { at ≤ held + 8 * length bytes.now }
+    ensures { result.0 ++ bits_of_bytes result.1.now ≡ drop at (bits_of held word ++ bits_of_bytes bytes.now) }
 {
-    if bytes.len() < 4 {
-        return None;
+    if at < u64::from(held) {
+        let mut window = Window::of(word, held);
+        window.split(at as u32);
+        return (window, bytes);
     }
-    window.push(four_of(bytes), 32);
-    Some(&bytes[4..])
+    let place = at - u64::from(held);
+    rest_of_byte(&bytes[(place / 8) as usize..], (place % 8) as u32)
 }
 
-/// Moves up to eight bytes of a slice, which has eight, into a window, and returns the bytes after them.
+/// A window and the first byte after it, if there is one, and the bytes after that.
 #[inline(always)]
-fn load_some<'a>(window: &mut Window, bytes: &'a [u8], count: usize) -> &'a [u8]
-    requires few { count ≤ 8 }
-    requires there { 8 ≤ length bytes.now }
-    requires room { length window.old + 8 * count ≤ 64 }
-    requires shift { length window.old < 64 }
-    ensures same { window.new ++ bits_of_bytes result.now ≡ window.old ++ bits_of_bytes bytes.now }
-    ensures longer { length window.new ≡ length window.old + 8 * count }
-    ensures fewer { length bytes.now ≡ count + length result.now }
+fn byte_more(before: Window, bytes: &[u8]) -> (Window, &[u8])
+    requires { length before ≤ 56 }
+    ensures same { result.0 ++ bits_of_bytes result.1.now ≡ before ++ bits_of_bytes bytes.now }
+    ensures longer { length result.0 ≤ length before + 8 }
 {
-    let eight = [
-        bytes[0], bytes[1], bytes[2], bytes[3], bytes[4], bytes[5], bytes[6], bytes[7],
-    ];
-    window.push(word_of(eight, count), 8 * count as u32);
-    &bytes[count..]
+    if bytes.len() == 0 {
+        return (before, bytes);
+    }
+    let mut window = before;
+    window.push(u64::from(bytes[0]), 8);
+    (window, &bytes[1..])
+}
+
+/// A window and first bits of the bytes after it: 32 or more, if they are there.
+#[inline(always)]
+fn filled(before: Window, bytes: &[u8]) -> Window
+    ensures { result ≡ take (length result) (before ++ bits_of_bytes bytes.now) }
+{
+    if before.len() > 32 {
+        return before;
+    }
+    if bytes.len() >= 4 {
+        let mut window = before;
+        window.push(four_of(bytes), 32);
+        return window;
+    }
+    let (one, others) = byte_more(before, bytes);
+    let (two, rest) = byte_more(one, others);
+    let (three, _) = byte_more(two, rest);
+    three
+}
+
+/// The complement of the bits of a window, and how many they are.
+#[inline(always)]
+fn ends_of(window: Window) -> (u64, u32)
+    ensures { Holds result.0 result.1 window }
+{
+    let (word, count) = window.parts();
+    if count == 64 {
+        return (!word, count);
+    }
+    (!word & ((1 << count) - 1), count)
+}
+
+/// The complement of the next bits after the first `at` of a word and the bytes after it, and how many they are: 32 or more, if they
+/// are there. Most loads come after the word and before the last eight bytes, and are made in place.
+#[cold]
+#[inline(never)]
+fn load_apart(bytes: &[u8], word: u64, held: u32, at: u64) -> (u64, u32)
+    requires below { word < 2 ^ held }
+    requires most { held ≤ 64 }
+    requires there { at ≤ held + 8 * length bytes.now }
+    ensures { Holds result.0 result.1 (drop at (bits_of held word ++ bits_of_bytes bytes.now)) }
+{
+    let (window, rest) = rest_of(bytes, word, held, at);
+    ends_of(filled(window, rest))
 }

@@ -32,7 +32,7 @@ fn buffered_field(buffered: &mut Buffered<'_>, place: u64) -> Option<u64> {
         2 => buffered.char6(),
         3 => buffered.vbr(ChunkWidth { bits: 3 }),
         4 => buffered.fixed(FieldWidth { bits: 13 }),
-        5 => buffered.pass_vbr(ChunkWidth { bits: 4 }),
+        5 => buffered.vbr(ChunkWidth { bits: 4 }),
         _ => skipped(buffered, 3, 5),
     }
 }
@@ -226,11 +226,14 @@ fn failed_parts(rt: HostRuntime) {
     assert!(rt; faults == [Some(Fault::Read), Some(Fault::Failed)] && reader.position() == 32);
 }
 
-/// The buffered bytes: those in the window, two after them, and the others.
+/// The buffered bytes: those in the word, two after them, and the others.
 fn bytes_told(alloc: Global, mut buffered: Buffered<'_>) -> Result<Vec<u64>, NotTaken> {
     let mut told = Vec::new(alloc);
     for _ in 0..8 {
-        match buffered.held_byte() {
+        if buffered.is_at_byte() {
+            break;
+        }
+        match buffered.fixed(FieldWidth { bits: 8 }) {
             Some(byte) => told.take(byte)?,
             None => break,
         }

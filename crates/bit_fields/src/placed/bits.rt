@@ -121,11 +121,13 @@ impl<'a> PlacedBits<'a> {
         ensures { 0 < result.1 → Reads (vbr n) (placed self.entry) result.0
             (beyond (placed self.entry) result.1) }
     {
-        let mut buffered = Buffered::of(
-            &self.bytes[(self.at >> 3) as usize..],
-            self.start + (self.at & !7),
-        );
-        buffered.skip(self.at & 7);
+        let mut buffered = Buffered::new(BufferedParts {
+            word: 0,
+            held: 0,
+            bytes: self.bytes,
+            position: self.start,
+        });
+        buffered.skip(self.at);
         buffered.far_vbr(ChunkWidth { bits: n })
     }
 

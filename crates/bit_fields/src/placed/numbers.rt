@@ -10,44 +10,8 @@ ghost use Rattle.bit_fields.specs.SixBits.{HasCount};
 
 use crate::pen::{put, put_number, put_two};
 use crate::placed::PlacedBits;
+use crate::placed::first::{TOPS_OF, payloads_of};
 use crate::six_bits::{end_of, is_shortest, numbers_in};
-
-/// The top bits of chunks of each width, of as many as a load has.
-static TOPS_OF: [u64; 33] = [
-    0,
-    0,
-    48038396025285290,
-    82351536043346212,
-    38430716820228232,
-    18595508138820112,
-    9150170671482912,
-    36312488334073920,
-    36170086419038336,
-    9024825867763968,
-    563500246630912,
-    18023198899569664,
-    140771856484352,
-    2252074725150720,
-    36030996176445440,
-    17592722931712,
-    140739635871744,
-    1125908496842752,
-    9007233614610432,
-    72057731477143552,
-    549756338176,
-    2199024304128,
-    8796095119360,
-    35184376283136,
-    140737496743936,
-    562949970198528,
-    2251799847239680,
-    9007199321849856,
-    36028797153181696,
-    268435456,
-    536870912,
-    1073741824,
-    2147483648,
-];
 
 impl<'a> PlacedBits<'a> {
     /// Buffered bits from a bit of bytes on. The first bit of the bytes is at `start`.
@@ -79,9 +43,9 @@ impl<'a> PlacedBits<'a> {
         ensures { IfSome result (λ read. TakesNumber n more (placed self.entry) read.0 (placed read.1)) }
     {
         let ends = self.ends();
-        let mask = (1 << (n - 1)) - 1;
         if ends >> (n - 1) & 1 != 0 {
-            return Some((!ends & mask, self.after(u64::from(n))));
+            let value = !ends & ((1 << (n - 1)) - 1);
+            return Some((value, self.after(u64::from(n))));
         }
         let tops = ends & TOPS_OF[n as usize];
         if tops == 0 {
@@ -92,16 +56,7 @@ impl<'a> PlacedBits<'a> {
             return Some((value, self.after(len)));
         }
         let len = tops.trailing_zeros() + 1;
-        let mut value = !ends & mask;
-        let mut rest = !ends >> n;
-        let mut at = n;
-        let mut place = n - 1;
-        while at < len {
-            value |= (rest & mask) << place;
-            rest >>= n;
-            at += n;
-            place += n - 1;
-        }
+        let value = payloads_of(!ends, n, len);
         Some((value, self.after(u64::from(len))))
     }
 

@@ -12,7 +12,7 @@ use crate::six_bits::TOPS;
 
 /// The number that up to nine chunks of six bits spell, if no bits follow them.
 #[inline(always)]
-fn number_of(chunks: u64) -> u64
+pub(crate) fn number_of(chunks: u64) -> u64
     ensures { (count : ℕ) → count ≤ 9 → chunks < 2 ^ (6 * count)
         → result ≡ payload_number 5 count chunks }
 {

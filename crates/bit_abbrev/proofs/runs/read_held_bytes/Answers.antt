@@ -28,8 +28,11 @@ returns-in_err-take-clause-refused g c =
 pub loop-done-preserved : goal.loop-done-preserved
 loop-done-preserved g c = record {
   forward = omega (arith, c.loop-done.invariant.forward, c.in-Some.ensures.moves);
-  gains = λ many few before t. far_goes_on g.V.ValueTaker.took c.loop-done.values c.take.new.self (fixed 8) many (reader_at c.args.buffered.now) before c.loop-done.done (reader_at c.loop-done.buffered) c.in-Some.value (reader_at c.held_byte.new.self) (omega (arith, few)) (c.loop-done.invariant.gains many (omega (arith, few)) before t) (took_at (fixed 8) c.loop-done.buffered c.in-Some.value c.held_byte.new.self c.in-Some.ensures.reads) c.in_ok-take.ensures.ok;
+  gains = λ many few before t. far_goes_on g.V.ValueTaker.took c.loop-done.values c.take.new.self (fixed 8) many (reader_at c.args.buffered.now) before c.loop-done.done (reader_at c.loop-done.buffered) c.in-Some.value (reader_at c.fixed.new.self) (omega (arith, few)) (c.loop-done.invariant.gains many (omega (arith, few)) before t) (took_at (fixed 8) c.loop-done.buffered c.in-Some.value c.fixed.new.self c.in-Some.ensures.reads) c.in_ok-take.ensures.ok;
 }
 
 pub returns-clause-adds : goal.returns-clause-adds
 returns-clause-adds g c = λ before t. far_ends g.V.ValueTaker.took c.loop-done.values (fixed 8) c.args.most (reader_at c.args.buffered.now) before c.loop-done.done (reader_at c.loop-done.buffered) c.loop-done-test.false (omega arith) (c.loop-done.invariant.gains c.args.most (omega arith) before t)
+
+pub returns-then-is_at_byte-clause-adds : goal.returns-then-is_at_byte-clause-adds
+returns-then-is_at_byte-clause-adds g c = λ before t. far_ends g.V.ValueTaker.took c.loop-done.values (fixed 8) c.loop-done.done (reader_at c.args.buffered.now) before c.loop-done.done (reader_at c.loop-done.buffered) (omega arith) (omega arith) (c.loop-done.invariant.gains c.loop-done.done (omega arith) before t)

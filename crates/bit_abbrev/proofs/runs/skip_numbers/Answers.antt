@@ -16,14 +16,14 @@ loop-left-init c = record {
 pub loop-left-preserved : goal.loop-left-preserved
 loop-left-preserved c =
     let a = reader_at c.args.buffered.now in
-    let d = reader_at c.pass_vbr.new.self in
+    let d = reader_at c.vbr.new.self in
     let one : c.args.most - c.loop-left.left + 1 ≡ c.args.most - (c.loop-left.left - 1) = omega (arith, c.loop-left-test.true, c.loop-left.invariant.within) in
     record {
       within = omega (arith, c.loop-left.invariant.within);
       forward = omega (arith, c.loop-left.invariant.forward, c.in-Some.ensures.moves);
       past = λ many few. subst (λ (done : ℕ). FarPast (vbr c.args.n.bits) many done a d) one
           (past_goes_on (vbr c.args.n.bits) many (c.args.most - c.loop-left.left) a (reader_at c.loop-left.buffered) c.in-Some.field-0 d (omega (arith, few, one)) (c.loop-left.invariant.past many (omega (arith, few)))
-          (took_at (vbr c.args.n.bits) c.loop-left.buffered c.in-Some.field-0 c.pass_vbr.new.self c.in-Some.ensures.reads));
+          (took_at (vbr c.args.n.bits) c.loop-left.buffered c.in-Some.field-0 c.vbr.new.self c.in-Some.ensures.reads));
     }
 
 pub returns-in_default-clause-skips : goal.returns-in_default-clause-skips

@@ -1,7 +1,11 @@
-use Rattle.std.proofs.Common.{ap, length, arith}
+use Rattle.std.proofs.Common.{ap, length, length-drop, arith}
 use Rattle.bit_fields.specs.Buffered.{BufferedBits}
-use Rattle.bit_fields.proofs.LentParts.{buffered_length}
+use Rattle.bit_fields.specs.BufferedParts.{bits_of_parts}
+use Rattle.bit_fields.proofs.Loads.{length_of_parts}
 use Rattle.bit_fields.proofs.buffered.Buffered.len.Goals as goal
 
+pub overflow_sub-result : goal.overflow_sub-result
+overflow_sub-result c = omega (arith, c.from.ensures, c.self.invariant.there, length_of_parts c.self.inside.parts)
+
 pub returns : goal.returns
-returns c = omega (arith, c.self.invariant, c.position.ensures, ap (λ (a : BufferedBits). length a.bits) c.self.view_is, ap (λ (a : BufferedBits). a.position) c.self.view_is, buffered_length c.self.inside.window c.self.inside.bytes.now)
+returns c = omega (arith, c.from.ensures, c.self.invariant.there, length_of_parts c.self.inside.parts, length-drop c.self.inside.at (bits_of_parts c.self.inside.parts).bits, ap (λ (a : BufferedBits). length a.bits) c.self.view_is)

@@ -1,9 +1,10 @@
-use Rattle.std.proofs.Common.{◌+◌, ◌*◌, ℕ, ap, length}
-use Rattle.bit_fields.proofs.LentParts.{lent_told, parts_fit}
+use Rattle.std.proofs.Common.{refl, arith}
+use Rattle.bit_fields.specs.BufferedParts.{bits_of_parts}
+use Rattle.bit_fields.proofs.Loads.{beyond_none, loaded_word}
 use Rattle.bit_fields.proofs.buffered.Buffered.new.Goals as goal
 
 pub invariant_of-result : goal.invariant_of-result
-invariant_of-result c = parts_fit c.args.buffered_parts.word c.args.buffered_parts.held c.args.buffered_parts.position _ c.of.result c.args.buffered_parts.bytes.now c.of.ensures (ap (λ (k : ℕ). c.args.buffered_parts.position + (k + 8 * length c.args.buffered_parts.bytes.now)) c.from.ensures)
+invariant_of-result c = loaded_word c.args.buffered_parts _ c.from.result c.requires refl c.from.ensures (omega arith)
 
 pub returns : goal.returns
-returns c = lent_told c.args.buffered_parts.word c.args.buffered_parts.held c.args.buffered_parts.position _ c.of.result c.args.buffered_parts.bytes c.of.ensures (ap (λ (k : ℕ). c.args.buffered_parts.position + (k + 8 * length c.args.buffered_parts.bytes.now)) c.from.ensures)
+returns c = beyond_none (bits_of_parts c.args.buffered_parts)

@@ -1,14 +1,14 @@
-use Rattle.std.proofs.Common.{◌≤◌, length, sym, subst, arith, bit_and}
+use Rattle.std.proofs.Common.{◌≡◌, ap, ◌∙◌, length, subst, arith}
+use Rattle.bit_grammar.specs.Bits.{bits_of_bytes}
 use Rattle.bit_grammar.specs.Fields.{vbr}
 use Rattle.bit_fields.specs.Buffered.{BufferedBits, Reads, beyond}
-use Rattle.bit_fields.proofs.Placing.{part_there, placed_from}
+use Rattle.bit_fields.proofs.BitLaws.{length-bits_of_bytes}
 use Rattle.bit_fields.proofs.placed.PlacedBits.far.Goals as goal
 
 pub skip-requires : goal.skip-requires
-skip-requires c = subst (λ (a : BufferedBits). bit_and c.args.self.at 7 ≤ length a.bits) (sym c.of-buffered.ensures) (part_there c.args.self.at c.args.self.bytes.now c.args.self.there)
+skip-requires c =
+    let all : length c.new-buffered.result.bits ≡ length (bits_of_bytes c.args.self.bytes.now) = ap (λ (a : BufferedBits). length a.bits) c.new-buffered.ensures in
+    omega (arith, c.args.self.there, all, length-bits_of_bytes c.args.self.bytes.now)
 
 pub returns : goal.returns
-returns c = λ some. (
-    let here = placed_from c.args.self.start c.args.self.at c.args.self.bytes.now c.of-buffered.result c.skip.new.self c.args.self.there (omega arith) c.of-buffered.ensures c.skip.ensures.skipped in
-    subst (λ (a : BufferedBits). Reads (vbr c.args.n) a c.far_vbr.result.0 (beyond a c.far_vbr.result.1)) here (c.far_vbr.ensures.reads some)
-    )
+returns c = λ some. subst (λ (a : BufferedBits). Reads (vbr c.args.n) a c.far_vbr.result.0 (beyond a c.far_vbr.result.1)) (c.skip.ensures.skipped ∙ ap (λ (a : BufferedBits). beyond a c.args.self.at) c.new-buffered.ensures) (c.far_vbr.ensures.reads some)
