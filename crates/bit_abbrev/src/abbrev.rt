@@ -8,6 +8,7 @@ ghost use Rattle.bit_abbrev.specs.Layouts.{HasLayout};
 ghost use Rattle.bit_abbrev.specs.Breaks.{IsFirstBreak, LiteralFits, break_of};
 
 use crate::layout::{Layout, layout_of};
+use crate::plan::Plan;
 use crate::tail::{Tail, tail_of};
 use crate::widths::{is_fixed_width, is_vbr_width};
 use bit_grammar::{Kind, Op, Place, Reason};
@@ -36,6 +37,19 @@ pub struct Abbrev {
     ops: Ops,
     usable: bool,
     tail: LaidOut,
+    plan: Unshown,
+}
+
+/// How its records are passed over. It has no text.
+#[derive(Clone, Copy)]
+struct Unshown {
+    plan: Plan,
+}
+
+impl fmt::Debug for Unshown {
+    fn fmt<W: fmt::Write>(&self, f: &mut fmt::Formatter<W>) -> fmt::Result {
+        Ok(())
+    }
 }
 
 /// What follows the operands that stand for one value each, and how a record's fields are laid out. Its text is the first alone.
@@ -164,10 +178,12 @@ impl Abbrev {
             None => {
                 let tail = tail_of(ops.as_slice());
                 let layout = layout_of(ops.as_slice(), true, tail);
+                let plan = Plan::of(ops.as_slice(), true);
                 Ok(Abbrev {
                     ops,
                     usable: true,
                     tail: LaidOut { tail, layout },
+                    plan: Unshown { plan },
                 })
             }
             Some((at, reason)) => Err(BadAbbrev { ops, at, reason }),
@@ -182,10 +198,12 @@ impl Abbrev {
         let usable = has_shape(ops.as_slice());
         let tail = tail_of(ops.as_slice());
         let layout = layout_of(ops.as_slice(), usable, tail);
+        let plan = Plan::of(ops.as_slice(), usable);
         Abbrev {
             ops,
             usable,
             tail: LaidOut { tail, layout },
+            plan: Unshown { plan },
         }
     }
 
@@ -221,6 +239,13 @@ impl Abbrev {
         self.tail.layout
     }
 
+    /// How its records are passed over.
+    #[inline(always)]
+    pub fn plan(&self) -> &Plan
+    {
+        &self.plan.plan
+    }
+
     /// What follows the operands that stand for one value each.
     #[inline(always)]
     pub(crate) fn tail(&self) -> Tail
@@ -240,6 +265,7 @@ impl Abbrev {
             ops,
             usable: self.usable,
             tail: self.tail,
+            plan: self.plan,
         })
     }
 }

@@ -25,8 +25,6 @@ pub struct InfoBuilder {
     pub(crate) alloc: Global,
     pub(crate) groups: Vec<ReadyGroup>,
     room: Room,
-    /// How many plans may still be made.
-    plans: usize,
     /// The place of the group of the last definition that is ready.
     place: usize,
     pub(crate) later: Option<Box<HeldList>>,
@@ -46,8 +44,8 @@ impl Model for InfoBuilder {
 }
 
 impl InfoBuilder {
-    /// A table without definitions, which makes at most so many plans of later ones. It allocates nothing.
-    pub fn new(alloc: Global, plans: usize) -> InfoBuilder
+    /// A table without definitions. It allocates nothing.
+    pub fn new(alloc: Global) -> InfoBuilder
         ensures made { table_of result.made ≡ no_definitions }
         ensures newest { result.newest ≡ None }
     {
@@ -55,7 +53,6 @@ impl InfoBuilder {
             alloc,
             groups: Vec::new(alloc),
             room: Room::all(),
-            plans,
             place: 0,
             later: None,
         }
@@ -68,7 +65,7 @@ impl InfoBuilder {
         ensures err { OnErr result (self.new ≡ self.old) }
     {
         if self.later.is_none() && self.room.take(abbrev.ops().len()) {
-            self.place = add_ready(self.alloc, &mut self.groups, id, abbrev, &mut self.plans)?;
+            self.place = add_ready(self.alloc, &mut self.groups, id, abbrev)?;
             return Ok(());
         }
         add_later(&mut self.later, self.alloc, id, &abbrev)

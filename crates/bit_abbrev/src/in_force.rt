@@ -17,7 +17,7 @@ use crate::found::Found;
 use crate::from_table::FromTable;
 use crate::held::HeldList;
 use crate::ready::{Room, add_later, in_order, last_later, place_of, read_later};
-use crate::{Abbrev, Plan};
+use crate::Abbrev;
 use bit_fields::{BitReader, Fault, Shapes, Source};
 use std::alloc::{AllocError, Global};
 use std::boxed::Box;
@@ -224,20 +224,6 @@ impl InForce {
             (λ ops. (self.new.all ≡ self.old.all ++ ops ∷ []) × (self.new.newest ≡ Some ops)) }
     {
         read_later(&mut self.later, self.alloc, 0, reader, shapes, count)
-    }
-
-    /// The plans of the first definitions, possibly none.
-    #[inline]
-    pub fn plans(&self) -> &[Plan]
-        ensures { ArePlans self.now.all result.now }
-    {
-        let Some(shared) = &self.shared else {
-            return &[];
-        };
-        match shared.group() {
-            Some(group) => group.plans(),
-            None => &[],
-        }
     }
 
     /// All of them, for many look-ups of those that are ready.

@@ -3,8 +3,6 @@
 ghost use Rattle.std.specs.Option.{ForSome};
 ghost use Rattle.std.specs.Prelude.{◌<◌, ◌≤◌, slice_get};
 
-use bit_fields::ChunkTops;
-
 mod adding;
 mod making;
 mod passing;
@@ -23,14 +21,18 @@ pub const MARGIN: u64 = 2240;
 struct Pass {
     skip: u8,
     count: u8,
-    chunks: ChunkTops,
+    width: u8,
     ghost some: { 0 < count },
     ghost few: { count ≤ 4 },
+    ghost least: { 2 ≤ width },
+    ghost most: { width ≤ 32 },
 }
 
 /// Passes, and the bits after the last one.
 #[derive(Clone, Copy)]
 struct Passes {
+    /// The top bits of the first pass's numbers in a load of what it skips and them.
+    tops: u64,
     pass: [Pass; MOST],
     count: u8,
     after: u8,
@@ -57,13 +59,11 @@ enum Rest {
 #[derive(Clone, Copy)]
 pub struct Plan {
     rest: Rest,
-    /// The bits of an array's element that is a field.
+    /// The bits of an array's element that is a field, or of its chunks.
     width: u8,
     /// How many values the single operands have.
-    singles: u32,
+    singles: u8,
     code: u64,
-    /// The chunks of an array's elements that are numbers.
-    chunks: ChunkTops,
     passes: Passes,
 }
 

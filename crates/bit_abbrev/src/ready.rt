@@ -12,7 +12,6 @@ ghost use Rattle.bit_abbrev.specs.Ready.{either, last_one, later_list, newest_of
 
 use crate::Abbrev;
 use crate::held::HeldList;
-use crate::plan::Plan;
 use bit_fields::{BitReader, Fault, Shapes, Source};
 use std::alloc::{AllocError, Global};
 use std::boxed::Box;
@@ -67,7 +66,6 @@ impl Room {
 pub(crate) struct ReadyGroup {
     id: u32,
     ready: Vec<Abbrev>,
-    plans: Vec<Plan>,
 }
 
 impl Model for ReadyGroup {
@@ -78,8 +76,6 @@ impl Model for ReadyGroup {
     ghost Value = { ℕ × List (List Op) };
 
     ghost view = { λ group. (group.id, group.ready.items) };
-
-    ghost invariant = { λ group. AreFirst group.ready.items group.plans.items };
 }
 
 impl ReadyGroup {
@@ -90,7 +86,6 @@ impl ReadyGroup {
         Ok(ReadyGroup {
             id,
             ready: Vec::with_capacity(alloc, 1)?,
-            plans: Vec::new(alloc),
         })
     }
 
@@ -110,31 +105,12 @@ impl ReadyGroup {
         self.ready.as_slice()
     }
 
-    /// The plans of the first of them.
-    #[inline(always)]
-    pub(crate) fn plans(&self) -> &[Plan]
-        ensures { AreFirst self.now.1 result.now }
-    {
-        self.plans.as_slice()
-    }
-
-    /// Adds a definition, and its plan if `left` allows one and all those before it have one. If there is no memory for the plan,
-    /// there is none.
-    fn add(&mut self, abbrev: Abbrev, left: &mut usize) -> Result<(), AllocError>
+    /// Adds a definition.
+    fn add(&mut self, abbrev: Abbrev) -> Result<(), AllocError>
         ensures ok { OnOk result (self.new ≡ (self.old.0, self.old.1 ++ «abbrev» ∷ [])) }
         ensures err { OnErr result (self.new ≡ self.old) }
     {
-        let plan = if *left > 0 && self.plans.len() == self.ready.len() {
-            Some(Plan::of(&abbrev))
-        } else {
-            None
-        };
         self.ready.push(abbrev)?;
-        if let Some(plan) = plan {
-            if let Ok(()) = self.plans.push(plan) {
-                *left = left.saturating_sub(1);
-            }
-        }
         Ok(())
     }
 }
@@ -152,13 +128,12 @@ pub(crate) fn place_of(groups: &[ReadyGroup], id: u32) -> usize
     groups.len()
 }
 
-/// Adds a definition to those for a block id, as `ReadyGroup::add` does, and returns the place of their group.
+/// Adds a definition to those for a block id, and returns the place of their group.
 pub(crate) fn add_ready(
     alloc: Global,
     groups: &mut Vec<ReadyGroup>,
     id: u32,
     abbrev: Abbrev,
-    left: &mut usize,
 ) -> Result<usize, AllocError>
     ensures ok { IfOk result (λ place. (other : ℕ) → ready_for groups.new.items other
         ≡ defined_at id «abbrev» (ready_for groups.old.items) other) }
@@ -167,11 +142,11 @@ pub(crate) fn add_ready(
 {
     let place = place_of(groups.as_slice(), id);
     if place < groups.len() {
-        groups[place].add(abbrev, left)?;
+        groups[place].add(abbrev)?;
         return Ok(place);
     }
     let mut group = ReadyGroup::new(alloc, id)?;
-    group.add(abbrev, left)?;
+    group.add(abbrev)?;
     groups.push(group)?;
     Ok(place)
 }

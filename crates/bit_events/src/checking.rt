@@ -6,7 +6,7 @@ ghost use Rattle.bit_events.specs.Reading.{ReadsWhole};
 use crate::folding::fold;
 use crate::gatherer::Gatherer;
 use crate::passing::{PassedRun, Uncounted, pass_records};
-use bit_abbrev::{Abbrev, InForce, Plan};
+use bit_abbrev::{Abbrev, InForce};
 use bit_fields::{Fault, KeptSource, Limits, PlacedBits, Source, ValueCount};
 use std::alloc::{AllocError, Global};
 
@@ -61,11 +61,10 @@ impl Gatherer for Nothing {
         &mut self,
         bits: PlacedBits<'_>,
         width: u32,
-        plans: &[Plan],
         definitions: &InForce,
         room: u64,
     ) -> Result<PassedRun, AllocError> {
-        pass_records(bits, width, plans, definitions, room, &mut Uncounted)
+        pass_records(bits, width, definitions, room, &mut Uncounted)
     }
 
     #[inline]

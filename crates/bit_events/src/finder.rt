@@ -13,7 +13,6 @@ use crate::folding::gather_rest;
 use crate::gatherer::Gatherer;
 use crate::machine::{Machine, Step};
 use crate::with_first::WithFirst;
-use bit_abbrev::Planning;
 use bit_fields::{BitReader, Fault, Head, Limits, PackedValues, Source, ValueKeeper};
 use std::alloc::Global;
 use std::marker::Model;
@@ -71,7 +70,7 @@ impl<S: Source, V: ValueKeeper> EventFinder<S, V> {
             limits,
             head,
             reader,
-            machine: Machine::new(alloc, Planning::Never),
+            machine: Machine::new(alloc),
             values: WithFirst::new(V::empty(alloc)),
             found: None,
             reached,

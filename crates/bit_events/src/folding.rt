@@ -20,7 +20,6 @@ use crate::gatherer::Gatherer;
 use crate::machine::{Machine, Step};
 use crate::running::{gather_records, loaded_at};
 use crate::with_first::WithFirst;
-use bit_abbrev::Planning;
 use bit_fields::{BitReader, BufferedParts, Fault, FieldWidth, Head, Limits, PlacedBits, Source};
 use std::alloc::{AllocError, Global};
 
@@ -353,12 +352,7 @@ pub fn fold<S: Source, G: Gatherer + Drop>(
     };
     let mut reader = reader;
     let mut gatherer = gatherer;
-    let planning = if gatherer.passes() && gatherer.by_plans() {
-        Planning::First
-    } else {
-        Planning::Never
-    };
-    let mut machine = Machine::new(alloc, planning);
+    let mut machine = Machine::new(alloc);
     let done = gather_rest(alloc, &mut reader, &mut machine, &limits, &mut gatherer);
     let after = reader.position();
     let source = reader.into_source();

@@ -2,13 +2,12 @@ ghost use Rattle.std.specs.Prelude.{◌≡◌, ◌≤◌, ℕ, List, [], Some, N
 ghost use Rattle.bit_grammar.specs.declared.op.Op.{Op};
 ghost use Rattle.bit_grammar.specs.Machine.{enters, defines, notes, leaves};
 ghost use Rattle.bit_fields.specs.PlacedView.{placed};
-ghost use Rattle.bit_abbrev.specs.Plans.{ArePlans};
 ghost use Rattle.bit_events.specs.Gathering.{Gathers};
 ghost use Rattle.bit_events.specs.MachineView.{TookSome};
 ghost use Rattle.bit_events.specs.Passing.{PassesRun};
 
 use crate::passing::PassedRun;
-use bit_abbrev::{Abbrev, InForce, Plan};
+use bit_abbrev::{Abbrev, InForce};
 use bit_fields::{PlacedBits, ValueTaker};
 use std::alloc::AllocError;
 
@@ -94,25 +93,17 @@ pub trait Gatherer {
         false
     }
 
-    /// Whether `pass` goes by plans, so that they are made.
-    #[inline(always)]
-    fn by_plans(&self) -> bool {
-        true
-    }
-
-    /// Gathers records of the innermost block which come first in these bits: as many as it likes. Their ids have this width, and the
-    /// first definitions in force have these plans. They have at most `room` values.
+    /// Gathers records of the innermost block which come first in these bits: as many as it likes. Their ids have this width, and
+    /// they have at most `room` values.
     #[inline(always)]
     fn pass(
         &mut self,
         bits: PlacedBits<'_>,
         width: u32,
-        _plans: &[Plan],
         _definitions: &InForce,
         room: u64,
     ) -> Result<PassedRun, AllocError>
         requires width { width ≤ 32 }
-        requires plans { ArePlans _definitions.now.all _plans.now }
         ensures gathers { IfOk result (λ run. PassesRun gathered width _definitions.now.all room
             (placed bits.entry) self.old run self.new) }
         ensures fails { OnErr result (fails self.old None self.new) }

@@ -24,7 +24,7 @@ use crate::heads::{
 };
 use crate::running::{buffered_item, buffered_record};
 use crate::with_first::WithFirst;
-use bit_abbrev::{Abbrev, InForce, InfoBuilder, Planning, SharedInfo};
+use bit_abbrev::{Abbrev, InForce, InfoBuilder, SharedInfo};
 use bit_fields::{
     BitReader, Buffered, Fault, FieldWidth, Limits, PlacedBits, Reason, Source, ValueTaker,
 };
@@ -59,7 +59,6 @@ pub(crate) struct Machine {
     pub(crate) frames: Vec<Frame>,
     pub(crate) table: SharedInfo,
     pub(crate) used: u64,
-    pub(crate) planning: Planning,
     /// The last definition that was lent, if it had to be made anew.
     made: Option<Abbrev>,
 }
@@ -90,7 +89,7 @@ impl Step {
 
 impl Machine {
     /// No block is open, and nothing was read.
-    pub(crate) fn new(alloc: Global, planning: Planning) -> Machine
+    pub(crate) fn new(alloc: Global) -> Machine
         ensures machine { machine_shown result ≡ at_start }
         ensures none { vec_len result.frames ≡ 0 }
     {
@@ -98,7 +97,6 @@ impl Machine {
             frames: Vec::new(alloc),
             table: SharedInfo::new(),
             used: 0,
-            planning,
             made: None,
         }
     }
@@ -140,7 +138,7 @@ impl Machine {
         ensures more { OnOk result (vec_len self.new.frames ≡ vec_len self.old.frames + 1) }
         ensures fewer { OnErr result (vec_len self.new.frames ≤ vec_len self.old.frames) }
     {
-        let made = InfoBuilder::new(alloc, self.planning.at(head.body));
+        let made = InfoBuilder::new(alloc);
         let described = None;
         self.push(alloc, head, Some(Describing { described, made }))
     }

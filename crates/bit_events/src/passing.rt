@@ -7,10 +7,10 @@ ghost use Rattle.bit_grammar.specs.Marks.{RecordMark};
 ghost use Rattle.bit_grammar.specs.Fields.{fixed};
 ghost use Rattle.bit_fields.specs.Buffered.{Reads, beyond};
 ghost use Rattle.bit_fields.specs.PlacedView.{placed};
-ghost use Rattle.bit_abbrev.specs.Plans.{ArePlans, PassesOver};
+ghost use Rattle.bit_abbrev.specs.Plans.{PassesOver};
 ghost use Rattle.bit_events.specs.Passing.{CountsOne, PassesOn, PassesRecords, StepsOn, mark_of};
 
-use bit_abbrev::{Definitions, InForce, MARGIN, Passed, Plan, pass_by_operands, pass_plain};
+use bit_abbrev::{Definitions, InForce, MARGIN, Passed, pass_by_operands, pass_plain};
 use bit_fields::PlacedBits;
 use std::alloc::AllocError;
 
@@ -96,19 +96,19 @@ trait PassOne: Copy {
         ensures within { IfSome result (λ passed. width + passed.len ≤ length (placed bits.entry).bits) };
 }
 
-/// By plans of the first definitions.
+/// By plans of definitions.
 #[derive(Clone, Copy)]
 struct ByPlans<'a> {
-    plans: &'a [Plan],
+    definitions: &'a Definitions<'a>,
 }
 
 impl<'a> PassOne for ByPlans<'a> {
-    ghost knows = { λ by definitions. ArePlans definitions by.plans.now };
+    ghost knows = { λ by definitions. by.definitions.now ≡ definitions };
 
     #[inline(always)]
     fn pass_one(self, bits: PlacedBits<'_>, width: u32, id: u64, room: u64) -> Option<Passed> {
         let fields = bits.load().after(width);
-        self.plans.get((id - 4) as usize)?.pass(fields, room)
+        self.definitions.get((id - 4) as usize)?.plan().pass(fields, room)
     }
 }
 
@@ -245,25 +245,23 @@ fn pass_run<'a, C: RunCounter, P: PassOne>(
 }
 
 /// Passes over records with abbreviation ids of a width, as long as they are not odd and a margin of bits is there: first by plans of
-/// the first definitions in force, then by the operands of all. They have at most `room` values.
+/// definitions, then by their operands. They have at most `room` values.
 #[inline(always)]
 pub fn pass_records<C: RunCounter>(
     bits: PlacedBits<'_>,
     width: u32,
-    plans: &[Plan],
     definitions: &InForce,
     room: u64,
     counter: &mut C,
 ) -> Result<PassedRun, AllocError>
     requires width { width ≤ 32 }
-    requires plans { ArePlans definitions.now.all plans.now }
     requires none { C.counted counter.old [] counter.old }
     ensures passes { IfOk result (λ run. (records : List RecordMark) × C.counted counter.old records counter.new
         × PassesRecords width definitions.now.all room (placed bits.entry) records run) }
 {
-    let mut run = pass_run(bits, width, ByPlans { plans }, room, counter)?;
+    let all = definitions.all();
+    let mut run = pass_run(bits, width, ByPlans { definitions: &all }, room, counter)?;
     if !run.is_over {
-        let all = definitions.all();
         let by = ByOperands { definitions: &all };
         run = pass_run(run.bits, width, by, run.room, counter)?;
     }

@@ -9,7 +9,6 @@ ghost use Rattle.bit_grammar.specs.Machine.{step_of};
 ghost use Rattle.bit_fields.specs.Buffered.{Reads, beyond};
 ghost use Rattle.bit_fields.specs.BufferedParts.{bits_of_parts, AreParts};
 ghost use Rattle.bit_fields.specs.PlacedView.{placed};
-ghost use Rattle.bit_abbrev.specs.Plans.{ArePlans};
 ghost use Rattle.bit_abbrev.specs.Values.{Gains, Has, Keeps};
 ghost use Rattle.bit_events.specs.FrameView.{frame_shown};
 ghost use Rattle.bit_events.specs.MachineView.{record_of, TookSome};
@@ -18,7 +17,7 @@ ghost use Rattle.bit_events.specs.Runs.{AddsBehind, GathersRun, ReadsTo, SeesRec
 use crate::entry::read_entry;
 use crate::frame::Frame;
 use crate::gatherer::Gatherer;
-use bit_abbrev::{Abbrev, FEW, InForce, Layout, MARGIN, Plan, read_few};
+use bit_abbrev::{Abbrev, FEW, InForce, Layout, MARGIN, read_few};
 use bit_fields::{Buffered, BufferedParts, FieldWidth, Limits, PlacedBits, ValueTaker};
 use std::alloc::AllocError;
 
@@ -246,7 +245,6 @@ fn pass_placed<G: Gatherer>(
     parts: BufferedParts<'_>,
     first: u64,
     frame: &Frame,
-    plans: &[Plan],
     limits: &Limits,
     used: &mut u64,
     gatherer: &mut G,
@@ -255,7 +253,6 @@ fn pass_placed<G: Gatherer>(
     requires least { (bits_of_parts parts).position ≤ first }
     requires there { first - (bits_of_parts parts).position ≤ length (bits_of_parts parts).bits }
     requires plain { frame.now.info ≡ None }
-    requires plans { ArePlans frame.now.definitions.all plans.now }
     ensures gathers { IfOk result (λ run. GathersRun G.gathered limits.now frame.now used.old
         (beyond (bits_of_parts parts.entry) (first - (bits_of_parts parts.entry).position))
         gatherer.old used.new run.after gatherer.new) }
@@ -282,7 +279,6 @@ fn pass_placed<G: Gatherer>(
     let run = gatherer.pass(
         bits,
         u32::from(frame.head.width),
-        plans,
         &frame.definitions,
         room,
     )?;
@@ -334,8 +330,7 @@ pub(crate) fn gather_records<G: Gatherer>(
         (beyond (bits_of_parts parts.entry) (start - (bits_of_parts parts.entry).position))
         gatherer.old gatherer.new) }
 {
-    let plans = frame.definitions.plans();
-    let run = pass_placed(parts, start, frame, plans, limits, used, gatherer)?;
+    let run = pass_placed(parts, start, frame, limits, used, gatherer)?;
     if run.is_over {
         return Ok(run.after);
     }
@@ -372,7 +367,6 @@ fn gather_on<G: Gatherer>(
 {
     let mut first = start;
     let mut window = loaded;
-    let plans = frame.definitions.plans();
     loop {
         window = loaded_at(first, window);
         let buffered = buffered_from(parts, first, window);
@@ -381,7 +375,7 @@ fn gather_on<G: Gatherer>(
         if run.is_over {
             return Ok(first);
         }
-        let run = pass_placed(parts, first, frame, plans, limits, used, gatherer)?;
+        let run = pass_placed(parts, first, frame, limits, used, gatherer)?;
         first = run.after;
         if run.is_over {
             return Ok(first);

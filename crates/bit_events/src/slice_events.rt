@@ -17,7 +17,6 @@ use crate::finder::PackedEvent;
 use crate::machine::{Machine, Step};
 use crate::passing::{CountedRecord, RunCounter, pass_records};
 use crate::with_first::WithFirst;
-use bit_abbrev::Planning;
 use bit_fields::{
     BitReader, Buffered, Fault, Head, Limits, PackedValues, PlacedBits, SliceSource, Source,
     ValueCount, ValueTaker,
@@ -120,7 +119,7 @@ impl<'a> SliceEvents<'a> {
             head,
             reader,
             buffered,
-            machine: Machine::new(alloc, Planning::Never),
+            machine: Machine::new(alloc),
             values: WithFirst::new(PackedValues::new(alloc)),
             found: None,
             over: false,
@@ -165,7 +164,7 @@ impl<'a> SliceEvents<'a> {
         Some(read)
     }
 
-    /// Passes over the next records of the innermost block by plans, at most `most`, and returns how many they are.
+    /// Passes over the next records of the innermost block, at most `most`, and returns how many they are.
     #[inline(always)]
     fn pass_records(&mut self, most: u64) -> u64
         ensures few { result ≤ most }
@@ -191,8 +190,7 @@ impl<'a> SliceEvents<'a> {
         let room = self.limits.values().saturating_sub(self.machine.used);
         let mut passing = Passing { left: most };
         let width = u32::from(frame.head.width);
-        let plans = frame.definitions.plans();
-        let Ok(run) = pass_records(bits, width, plans, &frame.definitions, room, &mut passing)
+        let Ok(run) = pass_records(bits, width, &frame.definitions, room, &mut passing)
         else {
             return 0;
         };
@@ -226,8 +224,6 @@ impl<'a> SliceEvents<'a> {
         ensures fails { IfErr result (λ fault. (count : ℕ) × (mid : Coming)
             × PassesEvents count self.old mid × BreaksOff mid fault self.new) }
     {
-        // Records are passed over by plans of the definitions that are found from here on.
-        self.machine.planning = Planning::First;
         let mut left = most;
         while left > 0 {
             left -= self.pass_records(left);

@@ -13,7 +13,7 @@ ghost use Rattle.bit_norm.specs.Writing.{record_front, record_text, enter_text};
 
 use crate::form_run::{End, SHORT, write_records};
 use crate::form_values::{FormValues, is_long};
-use bit_abbrev::{Abbrev, Definitions, InForce, Layout, Plan};
+use bit_abbrev::{Abbrev, Definitions, InForce, Layout};
 use bit_events::{Gatherer, OpenBlocks, PassedRun};
 use bit_fields::{BitText, Limits, PlacedBits};
 use bit_tree::Info;
@@ -399,16 +399,10 @@ impl<'a> Gatherer for FormBuilder<'a> {
     }
 
     #[inline(always)]
-    fn by_plans(&self) -> bool {
-        false
-    }
-
-    #[inline(always)]
     fn pass(
         &mut self,
         bits: PlacedBits<'_>,
         width: u32,
-        _plans: &[Plan],
         definitions: &InForce,
         room: u64,
     ) -> Result<PassedRun, AllocError> {

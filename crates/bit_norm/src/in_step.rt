@@ -10,7 +10,6 @@ ghost use Rattle.bit_events.specs.EventView.{event_shown};
 ghost use Rattle.bit_events.specs.Standing.{stands_after};
 ghost use Rattle.bit_fields.specs.Opening.{head_told};
 ghost use Rattle.bit_fields.specs.PlacedView.{placed};
-ghost use Rattle.bit_abbrev.specs.Plans.{ArePlans};
 ghost use Rattle.bit_events.specs.Passing.{PassesRun};
 ghost use Rattle.bit_norm.specs.InStep.{said_of, sign_shown, stand_of, IsBeside, Weighs, PutsDown, StandsBeside, WeighsNext, Steps, Meets};
 ghost use Rattle.bit_norm.specs.InFront.{ComparesBehind, Concludes, Matches};
@@ -21,7 +20,7 @@ use crate::magics::{magic_bit, magic_standing};
 use crate::sign::Sign;
 use crate::walk::{Walk, one_more};
 use crate::writing::number_of_magic;
-use bit_abbrev::{Abbrev, InForce, Plan};
+use bit_abbrev::{Abbrev, InForce};
 use bit_events::{
     CountedRecord, Event, Folded, Gatherer, OpenBlocks, PackedEvent, PassedRun, RecordHead,
     RunCounter, SliceEvents, Uncounted, fold, pass_records,
@@ -420,14 +419,12 @@ impl<'a> Comparer<'a> {
         &mut self,
         bits: PlacedBits<'_>,
         width: u32,
-        plans: &[Plan],
         definitions: &InForce,
         room: u64,
     ) -> Result<PassedRun, AllocError>
         requires width { width ≤ 32 }
         requires found { self.old.compared.found ≡ None }
         requires some { 0 < self.old.passed_to }
-        requires plans { ArePlans definitions.now.all plans.now }
         ensures { IfOk result (λ run. PassesRun Matches width definitions.now.all room (placed bits.entry)
             self.old run self.new) }
     {
@@ -438,7 +435,7 @@ impl<'a> Comparer<'a> {
             items: self.walk.items,
             ended: self.second_ended,
         };
-        let run = pass_records(bits, width, plans, definitions, room, &mut equal)?;
+        let run = pass_records(bits, width, definitions, room, &mut equal)?;
         self.passed = equal.passed;
         self.walk.items = equal.items;
         self.first_ended = equal.ended;
@@ -684,7 +681,6 @@ impl<'a> Gatherer for Comparer<'a> {
         &mut self,
         bits: PlacedBits<'_>,
         width: u32,
-        plans: &[Plan],
         definitions: &InForce,
         room: u64,
     ) -> Result<PassedRun, AllocError> {
@@ -692,9 +688,9 @@ impl<'a> Gatherer for Comparer<'a> {
             return Ok(PassedRun::none(bits, room));
         }
         if self.found.is_some() {
-            return pass_records(bits, width, plans, definitions, room, &mut Uncounted);
+            return pass_records(bits, width, definitions, room, &mut Uncounted);
         }
-        self.pass_equal(bits, width, plans, definitions, room)
+        self.pass_equal(bits, width, definitions, room)
     }
 
     fn leave(&mut self, after: u64) -> Result<(), AllocError> {

@@ -6,7 +6,7 @@ ghost use Rattle.bit_scan.specs.Cut.{capped_counts, cut_open};
 ghost use Rattle.bit_scan.specs.Rows.{block_tallies};
 
 use crate::rows::{Addition, BlockRow, BlockRows};
-use bit_abbrev::{Abbrev, InForce, Plan};
+use bit_abbrev::{Abbrev, InForce};
 use bit_events::{Gatherer, PassedRun};
 use bit_fields::{PlacedBits, ValueCount, ValueTaker};
 use std::alloc::{AllocError, Global};
@@ -174,7 +174,6 @@ impl Gatherer for Counter {
         &mut self,
         bits: PlacedBits<'_>,
         width: u32,
-        plans: &[Plan],
         definitions: &InForce,
         room: u64,
     ) -> Result<PassedRun, AllocError> {
@@ -184,7 +183,6 @@ impl Gatherer for Counter {
                 block.place,
                 bits,
                 width,
-                plans,
                 definitions,
                 room,
             ),

@@ -9,13 +9,12 @@ ghost use Rattle.bit_scan.specs.Cut.{cut_code, cut_row, cut_rows};
 ghost use Rattle.bit_grammar.specs.Marks.{RecordMark};
 ghost use Rattle.bit_grammar.specs.declared.op.Op.{Op};
 ghost use Rattle.bit_fields.specs.PlacedView.{placed};
-ghost use Rattle.bit_abbrev.specs.Plans.{ArePlans};
 ghost use Rattle.bit_events.specs.Passing.{PassesRecords};
 ghost use Rattle.bit_scan.specs.declared.rows.Addition.TheVariants as addition;
 ghost use Rattle.bit_scan.specs.Rows.{block_tally, block_tallies, rows_after, with_codes, with_run, AddsToRow, CountsInRow};
 
 use crate::links::{Keyed, Spot, find, is_at, lead};
-use bit_abbrev::{InForce, Plan};
+use bit_abbrev::{InForce};
 use bit_events::{CountedRecord, PassedRun, RunCounter, pass_records};
 use bit_fields::PlacedBits;
 use std::alloc::{AllocError, Global};
@@ -368,12 +367,10 @@ impl BlockRow {
         places: &mut CodePlaces,
         bits: PlacedBits<'_>,
         width: u32,
-        plans: &[Plan],
         definitions: &InForce,
         room: u64,
     ) -> Result<PassedRun, AllocError>
         requires width { width ≤ 32 }
-        requires plans { ArePlans definitions.now.all plans.now }
         ensures { IfOk result (λ run. (records : List RecordMark)
             × CountsInRow self.old records self.new
             × PassesRecords width definitions.now.all room (placed bits.entry) records run) }
@@ -384,7 +381,7 @@ impl BlockRow {
             plain: 0,
             abbreviated: 0,
         };
-        match pass_records(bits, width, plans, definitions, room, &mut counter) {
+        match pass_records(bits, width, definitions, room, &mut counter) {
             Ok(run) => {
                 let (plain, abbreviated) = (counter.plain, counter.abbreviated);
                 counter.row.add_run(plain, abbreviated, room - run.room);
@@ -432,13 +429,11 @@ fn pass_at(
     place: usize,
     bits: PlacedBits<'_>,
     width: u32,
-    plans: &[Plan],
     definitions: &InForce,
     room: u64,
 ) -> Result<PassedRun, AllocError>
     requires within { place < length rows.old }
     requires width { width ≤ 32 }
-    requires plans { ArePlans definitions.now.all plans.now }
     ensures keys { keys_of rows.new ≡ keys_of rows.old }
     ensures passes { IfOk result (λ run. (records : List RecordMark)
         × PassesRecords width definitions.now.all room (placed bits.entry) records run
@@ -452,7 +447,6 @@ fn pass_at(
         &mut places[place % 32],
         bits,
         width,
-        plans,
         definitions,
         room,
     )
@@ -591,12 +585,10 @@ impl BlockRows {
         place: usize,
         bits: PlacedBits<'_>,
         width: u32,
-        plans: &[Plan],
         definitions: &InForce,
         room: u64,
     ) -> Result<PassedRun, AllocError>
         requires width { width ≤ 32 }
-        requires plans { ArePlans definitions.now.all plans.now }
         ensures { IfOk result (λ run. (records : List RecordMark)
             × PassesRecords width definitions.now.all room (placed bits.entry) records run
             × ((tallies : List BlockTally) → block_tallies self.old ≡ cut_rows tallies
@@ -611,7 +603,6 @@ impl BlockRows {
             place,
             bits,
             width,
-            plans,
             definitions,
             room,
         )

@@ -21,9 +21,10 @@ impl Passes {
         let pass = Pass {
             skip: 0,
             count: 1,
-            chunks: ChunkTops::of(ChunkWidth::of(6)),
+            width: 6,
         };
         Passes {
+            tops: 0,
             pass: [pass; MOST],
             count: 0,
             after: 0,
@@ -56,13 +57,13 @@ impl Passes {
         }
         let at = self.count as usize - 1;
         let last = self.pass[at];
-        if last.chunks.bits != u32::from(width) || last.count == TOGETHER {
+        if last.width != width || last.count == TOGETHER {
             return false;
         }
         self.pass[at] = Pass {
             skip: last.skip,
             count: last.count + 1,
-            chunks: last.chunks,
+            width,
         };
         true
     }
@@ -80,10 +81,13 @@ impl Passes {
         if count == MOST || count == 0 && self.after >= 64 {
             return false;
         }
+        if count == 0 {
+            self.tops = ChunkTops::of(ChunkWidth::of(width)).behind(self.after);
+        }
         self.pass[count] = Pass {
             skip: self.after,
             count: 1,
-            chunks: ChunkTops::of(ChunkWidth::of(width)),
+            width,
         };
         self.count += 1;
         self.after = 0;

@@ -6,9 +6,7 @@ ghost use Rattle.bit_grammar.specs.FormatDefinition.{HasLawfulValue};
 ghost use Rattle.bit_abbrev.specs.declared.plan.Rest.TheVariants.{Odd};
 ghost use Rattle.bit_abbrev.specs.Plans.{Covers, HasRest, IsPlan};
 
-use crate::abbrev::Abbrev;
 use crate::plan::{Passes, Plan, Rest};
-use bit_fields::{ChunkTops, ChunkWidth};
 use bit_grammar::Op;
 
 /// Takes the first operands as long as they fit, and returns how many these are.
@@ -37,7 +35,6 @@ impl Plan {
             width: 0,
             singles: 0,
             code: 0,
-            chunks: ChunkTops::of(ChunkWidth::of(6)),
             passes: Passes::new(),
         }
     }
@@ -64,24 +61,24 @@ impl Plan {
             }
             [Op::Array, Op::Vbr(width)] if *width > 1 => {
                 self.rest = Rest::Numbers;
-                self.chunks = ChunkTops::of(ChunkWidth::of(*width));
+                self.width = *width;
             }
             _ => {}
         }
     }
 
     /// The plan of a definition.
-    pub(crate) fn of(abbrev: &Abbrev) -> Plan
-        ensures { IsPlan «abbrev».now result }
+    pub(crate) fn of(ops: &[Op], usable: bool) -> Plan
+        ensures { IsPlan ops.now result }
     {
         let mut plan = Plan::odd();
-        let [first, others @ ..] = abbrev.ops() else {
+        let [first, others @ ..] = ops else {
             return plan;
         };
         let Op::Literal(code) = *first else {
             return plan;
         };
-        if !abbrev.is_usable() {
+        if !usable {
             return plan;
         }
         let count = take_front(&mut plan.passes, others);
@@ -89,7 +86,7 @@ impl Plan {
             return plan;
         }
         plan.code = code;
-        plan.singles = count as u32;
+        plan.singles = count as u8;
         plan.set_rest(&others[count..]);
         plan
     }

@@ -12,42 +12,40 @@ ghost use Rattle.bit_abbrev.specs.declared.plan.Rest.TheVariants.{Nothing, Odd};
 ghost use Rattle.bit_abbrev.specs.Plans.{HasArray, HasPasses, HasRest, IsPlan, PassesOver};
 
 use crate::plan::{MARGIN, Pass, Passed, Passes, Plan, Rest};
-use bit_fields::{LoadedBits, PlacedBits};
+use bit_fields::{ChunkTops, ChunkWidth, LoadedBits, PlacedBits};
 
 impl Pass {
-    /// The length of the skipped bits and the numbers, with which the loaded bits begin.
+    /// The bits behind the skipped bits and the numbers, with which these begin.
     #[inline(always)]
-    fn len(&self, numbers: LoadedBits<'_>) -> Option<u64>
-        ensures has { IfSome result (λ len. (first : ℕ) × (len ≡ self.now.skip + first)
-            × HasNumbers self.now.chunks.bits self.now.count (loaded numbers.entry) first) }
-        ensures left { IfSome result (λ len. (len ≤ self.now.skip + 57)
-            ⊎ (len + 2240 ≤ self.now.skip + length (loaded numbers.entry).bits)) }
+    fn behind<'a>(&self, bits: LoadedBits<'a>) -> Option<LoadedBits<'a>>
     {
+        let chunks = ChunkTops::of(ChunkWidth::of(self.width));
         let count = u32::from(self.count);
-        let len = match numbers.few(self.chunks, count) {
-            Some(len) => len,
-            None => numbers
-                .bits()
-                .all_of(self.chunks, u64::from(count), MARGIN)?,
-        };
-        Some(u64::from(self.skip) + len)
+        if self.skip < 64 {
+            let numbers = bits.after(u32::from(self.skip));
+            if let Some(len) = numbers.few(chunks, count) {
+                return Some(numbers.after(len as u32));
+            }
+        }
+        let numbers = bits.bits().after(u64::from(self.skip)).load();
+        if let Some(len) = numbers.few(chunks, count) {
+            return Some(numbers.after(len as u32));
+        }
+        let len = numbers.bits().all_of(chunks, u64::from(count), MARGIN)?;
+        Some(numbers.bits().after(len).load())
     }
 
     /// The length of the first bits, the skipped bits and the numbers, if the numbers are loaded.
     #[inline(always)]
     fn near(&self, fields: LoadedBits<'_>, first: u64) -> Option<u64>
-        requires there { first + 255 ≤ length (loaded fields).bits }
-        ensures has { IfSome result (λ len. (more : ℕ) × (len ≡ first + self.now.skip + more)
-            × HasNumbers self.now.chunks.bits self.now.count
-            (beyond (loaded fields.entry) (first + self.now.skip)) more) }
-        ensures few { IfSome result (λ len. len ≤ first + 312) }
     {
         let from = first + u64::from(self.skip);
         if from >= 64 {
             return None;
         }
         let numbers = fields.after(from as u32);
-        Some(from + numbers.few(self.chunks, u32::from(self.count))?)
+        let chunks = ChunkTops::of(ChunkWidth::of(self.width));
+        Some(from + numbers.few(chunks, u32::from(self.count))?)
     }
 }
 
@@ -56,17 +54,15 @@ impl Passes {
     #[inline(always)]
     fn len(&self, fields: LoadedBits<'_>) -> Option<u64>
         requires { 2208 ≤ length (loaded fields).bits }
-        ensures has { IfSome result (λ len. (passed : ℕ) × (len ≡ passed + self.now.after)
-            × HasPasses (take self.now.count self.now.pass) (loaded fields.entry) passed) }
-        ensures left { IfSome result (λ len. len + 64 ≤ length (loaded fields.entry).bits) }
     {
         if self.count == 0 {
             return Some(u64::from(self.after));
         }
-        let first = &self.pass[0];
-        let len = first.len(fields.after(u32::from(first.skip)))?;
+        let Some(len) = fields.few_behind(self.tops, u32::from(self.pass[0].count)) else {
+            return self.more_len(fields.bits(), 0, 0);
+        };
         if self.count == 1 {
-            return Some(len + u64::from(self.after));
+            return Some(u64::from(self.after) + len);
         }
         match self.pass[1].near(fields, len) {
             Some(len) if self.count == 2 => Some(len + u64::from(self.after)),
@@ -78,22 +74,14 @@ impl Passes {
     /// The same, if `done` passes go over `first` bits.
     #[inline(never)]
     fn more_len(&self, bits: PlacedBits<'_>, first: u64, done: usize) -> Option<u64>
-        requires within { done ≤ self.now.count }
-        requires has { HasPasses (take done self.now.pass) (placed bits) first }
-        requires left { first + 2208 ≤ length (placed bits).bits + 312 * done }
-        ensures has { IfSome result (λ len. (passed : ℕ) × (len ≡ passed + self.now.after)
-            × HasPasses (take self.now.count self.now.pass) (placed bits.entry) passed) }
-        ensures left { IfSome result (λ len. len + 64 ≤ length (placed bits.entry).bits) }
     {
-        let mut len = first;
+        let mut load = bits.after(first).load();
         let mut at = done;
         while at < self.count as usize {
-            let pass = &self.pass[at];
-            let from = len + u64::from(pass.skip);
-            len += pass.len(bits.after(from).load())?;
+            load = self.pass[at].behind(load)?;
             at += 1;
         }
-        Some(len + u64::from(self.after))
+        Some(load.position() - bits.position() + u64::from(self.after))
     }
 }
 
@@ -137,7 +125,7 @@ impl Plan {
         let before = elements.position() - first.position();
         match self.rest {
             Rest::Sixes => sixes_len(first, elements, count, 1),
-            Rest::Numbers => Some(before + elements.bits().all_of(self.chunks, count, 0)?),
+            Rest::Numbers => Some(before + elements.bits().all_of(ChunkTops::of(ChunkWidth::of(self.width)), count, 0)?),
             _ => {
                 let len = count * u64::from(self.width);
                 if !elements.bits().has(len) {
@@ -166,6 +154,13 @@ impl Plan {
             return None;
         }
         Some((self.elements_len(first, elements, count)?, count))
+    }
+
+    /// Whether it passes over nothing.
+    #[inline(always)]
+    pub fn is_odd(&self) -> bool
+    {
+        self.rest == Rest::Odd
     }
 
     /// Passes over the fields of a record after its id, which has at most `room` values.

@@ -11,7 +11,7 @@ use crate::passing::{CountedRecord, PassedRun, RunCounter, pass_records};
 use crate::running::gather_odd;
 use crate::with_first::WithFirst;
 use crate::{Gatherer, fold};
-use bit_abbrev::{Abbrev, InForce, Plan, Planning};
+use bit_abbrev::{Abbrev, InForce};
 use bit_fields::{
     BitReader, BufSource, Buffered, Fault, FrontSource, KeptSource, Limits, PlacedBits,
     SliceSource, Source, ValueCount, ValueTaker,
@@ -98,7 +98,7 @@ fn fold_by_records<S: Source, G: Gatherer>(
     };
     let mut folding = Folding {
         reader,
-        machine: Machine::new(alloc, Planning::Never),
+        machine: Machine::new(alloc),
         gatherer,
     };
     let done = folding.gather_by_records(alloc, &limits);
@@ -323,11 +323,10 @@ impl Gatherer for Counted {
         &mut self,
         bits: PlacedBits<'_>,
         width: u32,
-        plans: &[Plan],
         definitions: &InForce,
         room: u64,
     ) -> Result<PassedRun, AllocError> {
-        pass_records(bits, width, plans, definitions, room, self)
+        pass_records(bits, width, definitions, room, self)
     }
 
     fn leave(&mut self, after: u64) -> Result<(), AllocError> {

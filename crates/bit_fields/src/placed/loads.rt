@@ -70,6 +70,28 @@ impl<'a> LoadedBits<'a> {
         Some(u64::from(len))
     }
 
+    /// The length of one to four numbers in chunks of any width, and of the bits before them, if they are loaded.
+    #[inline(always)]
+    pub fn few_behind(self, tops: u64, count: u32) -> Option<u64>
+        requires some { 0 < count }
+        requires few { count ≤ 4 }
+    {
+        let mut ends = self.ends & tops;
+        if count > 1 {
+            ends &= ends.wrapping_sub(1);
+            if count > 2 {
+                ends &= ends.wrapping_sub(1);
+                if count > 3 {
+                    ends &= ends.wrapping_sub(1);
+                }
+            }
+        }
+        if ends == 0 {
+            return None;
+        }
+        Some(u64::from(ends.trailing_zeros() + 1))
+    }
+
     /// The length of one to four numbers in chunks of any width, if they are loaded.
     #[inline(always)]
     pub fn few(self, chunks: ChunkTops, count: u32) -> Option<u64>

@@ -17,4 +17,11 @@ impl ChunkTops {
             bits: width.bits,
         }
     }
+
+    /// Those of a load whose first bits are no chunks.
+    #[inline(always)]
+    pub fn behind(self, bits: u8) -> u64
+    {
+        self.tops << bits
+    }
 }
