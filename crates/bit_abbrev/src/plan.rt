@@ -31,8 +31,6 @@ struct Pass {
 /// Passes, and the bits after the last one.
 #[derive(Clone, Copy)]
 struct Passes {
-    /// The top bits of the first pass's numbers in a load of what it skips and them.
-    tops: u64,
     pass: [Pass; MOST],
     count: u8,
     after: u8,
@@ -58,13 +56,15 @@ enum Rest {
 /// How a record of a definition is passed over.
 #[derive(Clone, Copy)]
 pub struct Plan {
+    code: u64,
+    /// The top bits of the first pass's numbers in a load of what it skips and them.
+    tops: u64,
+    passes: Passes,
     rest: Rest,
     /// The bits of an array's element that is a field, or of its chunks.
     width: u8,
     /// How many values the single operands have.
     singles: u8,
-    code: u64,
-    passes: Passes,
 }
 
 /// A record that was passed over: the length of its fields in bits, its code and how many values it has.

@@ -24,7 +24,6 @@ impl Passes {
             width: 6,
         };
         Passes {
-            tops: 0,
             pass: [pass; MOST],
             count: 0,
             after: 0,
@@ -81,9 +80,6 @@ impl Passes {
         if count == MOST || count == 0 && self.after >= 64 {
             return false;
         }
-        if count == 0 {
-            self.tops = ChunkTops::of(ChunkWidth::of(width)).behind(self.after);
-        }
         self.pass[count] = Pass {
             skip: self.after,
             count: 1,
@@ -92,6 +88,13 @@ impl Passes {
         self.count += 1;
         self.after = 0;
         true
+    }
+
+    /// The top bits of the first pass's numbers in a load of what it skips and them.
+    #[inline(always)]
+    pub(super) fn tops(&self) -> u64
+    {
+        ChunkTops::of(ChunkWidth::of(self.pass[0].width)).behind(self.pass[0].skip)
     }
 
     /// Adds an operand, if it fits.

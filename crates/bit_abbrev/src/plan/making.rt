@@ -35,6 +35,7 @@ impl Plan {
             width: 0,
             singles: 0,
             code: 0,
+            tops: 0,
             passes: Passes::new(),
         }
     }
@@ -86,6 +87,7 @@ impl Plan {
             return plan;
         }
         plan.code = code;
+        plan.tops = plan.passes.tops();
         plan.singles = count as u8;
         plan.set_rest(&others[count..]);
         plan

@@ -52,36 +52,35 @@ impl Pass {
 impl Passes {
     /// The length of what the passes go over.
     #[inline(always)]
-    fn len(&self, fields: LoadedBits<'_>) -> Option<u64>
+    fn len(&self, fields: LoadedBits<'_>, tops: u64) -> Option<u64>
         requires { 2208 ≤ length (loaded fields).bits }
     {
         if self.count == 0 {
             return Some(u64::from(self.after));
         }
-        let Some(len) = fields.few_behind(self.tops, u32::from(self.pass[0].count)) else {
-            return self.more_len(fields.bits(), 0, 0);
-        };
-        if self.count == 1 {
-            return Some(u64::from(self.after) + len);
-        }
-        match self.pass[1].near(fields, len) {
-            Some(len) if self.count == 2 => Some(len + u64::from(self.after)),
-            Some(len) => self.more_len(fields.bits(), len, 2),
-            None => self.more_len(fields.bits(), len, 1),
+        let (bytes, at) = fields.bits().place();
+        match fields.few_behind(tops, u32::from(self.pass[0].count)) {
+            Some(len) if self.count == 1 => Some(u64::from(self.after) + len),
+            Some(len) => match self.pass[1].near(fields, len) {
+                Some(len) if self.count == 2 => Some(u64::from(self.after) + len),
+                Some(len) => self.more_len(bytes, at, len, 2),
+                None => self.more_len(bytes, at, len, 1),
+            },
+            None => self.more_len(bytes, at, 0, 0),
         }
     }
 
     /// The same, if `done` passes go over `first` bits.
     #[inline(never)]
-    fn more_len(&self, bits: PlacedBits<'_>, first: u64, done: usize) -> Option<u64>
+    fn more_len(&self, bytes: &[u8], at: u64, first: u64, done: usize) -> Option<u64>
     {
-        let mut load = bits.after(first).load();
-        let mut at = done;
-        while at < self.count as usize {
-            load = self.pass[at].behind(load)?;
-            at += 1;
+        let mut load = PlacedBits::of(bytes, 0, at + first).load();
+        let mut next = done;
+        while next < self.count as usize {
+            load = self.pass[next].behind(load)?;
+            next += 1;
         }
-        Some(load.position() - bits.position() + u64::from(self.after))
+        Some(load.position() - at + u64::from(self.after))
     }
 }
 
@@ -175,7 +174,7 @@ impl Plan {
         if self.rest == Rest::Odd {
             return None;
         }
-        let len = self.passes.len(fields)?;
+        let len = self.passes.len(fields, self.tops)?;
         let count = u64::from(self.singles);
         let code = self.code;
         if self.rest == Rest::Nothing {
