@@ -1,6 +1,6 @@
 -- Passes over the values of operands, and how they grow.
 use Rattle.std.proofs.Common.{◌≡◌, ℕ, zero, suc, ◌+◌, ◌*◌, ◌-◌, ◌<◌, ◌≤◌, Bool, List, [], ◌∷◌, ◌++◌, length, take, drop, Result, Ok, Err, refl, sym, ap, ◌∙◌, subst, arith, get_or, add-one, ◌⊎◌, inl, inr}
-use Rattle.std.proofs.Math.Seq.{take-suc}
+use Rattle.std.proofs.Math.Seq.{take-add, take-suc}
 use Rattle.std.proofs.lemmas.List.{append-nil, length-drop}
 use Rattle.bit_grammar.specs.declared.op.Op.{Op}
 use Rattle.bit_grammar.specs.declared.op.Op.TheVariants.{Literal, Fixed, Vbr, Array, Char6, Blob}
@@ -129,41 +129,40 @@ numbers_last n (suc count) a len h =
 
 -- ---- passes, one after another
 
-pub passes_more : (others : List Pass) (pass : Pass) (a : BufferedBits) (before first : ℕ) → HasPasses others a before → HasNumbers pass.chunks.bits pass.count (beyond a (before + pass.skip)) first → HasPasses (others ++ pass ∷ []) a (before + (pass.skip + first))
-passes_more [] pass a before first h numbers =
-    let all : before + (pass.skip + first) ≡ pass.skip + first + 0 = omega (arith, h) in
-    let place : before + pass.skip ≡ pass.skip = omega (arith, h) in
-    (first, 0, all, subst (λ (k : ℕ). HasNumbers pass.chunks.bits pass.count (beyond a k) first) place numbers, refl)
-passes_more (one ∷ others) pass a before first h numbers =
+passes_joined : (front back : List Pass) (a : BufferedBits) (before more : ℕ) → HasPasses front a before → HasPasses back (beyond a before) more → HasPasses (front ++ back) a (before + more)
+passes_joined [] back a before more h later =
+    let none : before + more ≡ more = omega (arith, h) in
+    subst (HasPasses back a) (sym none) (subst (λ (b : BufferedBits). HasPasses back b more) (ap (beyond a) h ∙ beyond_none a) later)
+passes_joined (one ∷ front) back a before more h later =
     let here : ℕ = one.skip + h.0 in
-    let all : before + (pass.skip + first) ≡ one.skip + h.0 + (h.1 + (pass.skip + first)) = omega (arith, h.2) in
-    let place : before + pass.skip ≡ here + (h.1 + pass.skip) = omega (arith, h.2) in
-    let later : beyond a (before + pass.skip) ≡ beyond (beyond a here) (h.1 + pass.skip) = ap (beyond a) place ∙ sym (beyond_both a here (h.1 + pass.skip)) in
-    (h.0, h.1 + (pass.skip + first), all, h.3, passes_more others pass (beyond a here) h.1 first h.4 (subst (λ (b : BufferedBits). HasNumbers pass.chunks.bits pass.count b first) later numbers))
+    let all : before + more ≡ one.skip + h.0 + (h.1 + more) = omega (arith, h.2) in
+    let place : before ≡ here + h.1 = omega (arith, h.2) in
+    (h.0, h.1 + more, all, h.3, passes_joined front back (beyond a here) h.1 more h.4 (subst (λ (b : BufferedBits). HasPasses back b more) (ap (beyond a) place ∙ sym (beyond_both a here h.1)) later))
+
+pub passes_more : (others : List Pass) (pass : Pass) (a : BufferedBits) (before first : ℕ) → HasPasses others a before → HasNumbers pass.width pass.count (beyond a (before + pass.skip)) first → HasPasses (others ++ pass ∷ []) a (before + (pass.skip + first))
+passes_more others pass a before first h numbers =
+    let last : pass.skip + first ≡ pass.skip + first + 0 = omega arith in
+    passes_joined others (pass ∷ []) a before (pass.skip + first) h (first, 0, last, subst (λ (b : BufferedBits). HasNumbers pass.width pass.count b first) (sym (beyond_both a before pass.skip)) numbers, refl)
+
+-- some of a list of passes, and those after them
+pub passes_rest : (passes : List Pass) (done count : ℕ) (a : BufferedBits) (first more : ℕ) → done ≤ count → HasPasses (take done passes) a first → HasPasses (take (count - done) (drop done passes)) (beyond a first) more → HasPasses (take count passes) a (first + more)
+passes_rest passes done count a first more within h later =
+    let whole : done + (count - done) ≡ count = omega (arith, within) in
+    let parts : take count passes ≡ take done passes ++ take (count - done) (drop done passes) = ap (λ (n : ℕ). take n passes) (sym whole) ∙ take-add done (count - done) passes in
+    subst (λ (p : List Pass). HasPasses p a (first + more)) (sym parts) (passes_joined (take done passes) (take (count - done) (drop done passes)) a first more h later)
 
 -- one more of a list of passes
-pub passes_on : (passes : List Pass) (at : ℕ) (d : Pass) (a b : BufferedBits) (len skip next first : ℕ) → at < length passes → b ≡ beyond a (len + skip) → skip ≡ (get_or passes at d).skip → HasPasses (take at passes) a len → next ≡ (get_or passes at d).skip + first → HasNumbers (get_or passes at d).chunks.bits (get_or passes at d).count b first → HasPasses (take (at + 1) passes) a (len + next)
+pub passes_on : (passes : List Pass) (at : ℕ) (d : Pass) (a b : BufferedBits) (len skip next first : ℕ) → at < length passes → b ≡ beyond a (len + skip) → skip ≡ (get_or passes at d).skip → HasPasses (take at passes) a len → next ≡ (get_or passes at d).skip + first → HasNumbers (get_or passes at d).width (get_or passes at d).count b first → HasPasses (take (at + 1) passes) a (len + next)
 passes_on passes at d a b len skip next first within here skip_is h next_is numbers =
     let pass : Pass = get_or passes at d in
     let one : take (at + 1) passes ≡ take at passes ++ pass ∷ [] = rw add-one (take-suc passes at d within) in
     let place : b ≡ beyond a (len + pass.skip) = here ∙ ap (λ (k : ℕ). beyond a (len + k)) skip_is in
-    rw (one, next_is) (passes_more (take at passes) pass a len first h (subst (λ (x : BufferedBits). HasNumbers pass.chunks.bits pass.count x first) place numbers))
+    rw (one, next_is) (passes_more (take at passes) pass a len first h (subst (λ (x : BufferedBits). HasNumbers pass.width pass.count x first) place numbers))
 
--- the first two of a list of passes
-pub two_passes : (passes : List Pass) (d e : Pass) (a b : BufferedBits) (len first next more : ℕ) → 1 < length passes → b ≡ beyond a (get_or passes 0 d).skip → len ≡ (get_or passes 0 d).skip + first → HasNumbers (get_or passes 0 d).chunks.bits (get_or passes 0 d).count b first
-    → next ≡ len + (get_or passes 1 e).skip + more → HasNumbers (get_or passes 1 e).chunks.bits (get_or passes 1 e).count (beyond a (len + (get_or passes 1 e).skip)) more → HasPasses (take 2 passes) a next
-two_passes passes d e a b len first next more within here is numbers next_is later =
-    let skip : ℕ = (get_or passes 0 d).skip in
-    let place : skip ≡ 0 + skip = omega arith in
-    let one : HasPasses (take 1 passes) a (0 + len) = passes_on passes 0 d a b 0 skip len first (omega (arith, within)) (here ∙ ap (beyond a) place) refl refl is numbers in
-    let begun : 0 + len ≡ len = omega arith in
-    let all : len + ((get_or passes 1 e).skip + more) ≡ next = omega (arith, next_is) in
-    subst (HasPasses (take 2 passes) a) all (passes_on passes 1 e a (beyond a (len + (get_or passes 1 e).skip)) len (get_or passes 1 e).skip ((get_or passes 1 e).skip + more) more within refl refl (subst (HasPasses (take 1 passes) a) begun one) refl later)
-
--- bits that are left after it
-pub left_on : (a b : BufferedBits) (len skip own next at : ℕ) → b ≡ beyond a (len + skip) → len + 2208 ≤ length a.bits + 312 * at → len + skip ≤ length a.bits → skip ≤ 255 → skip ≡ own → (next ≤ own + 57) ⊎ (next + 2240 ≤ own + length b.bits) → len + next + 2208 ≤ length a.bits + 312 * (at + 1)
-left_on a b len skip own next at here left there few same (inl short) = omega (arith, left, few, short, same)
-left_on a b len skip own next at here left there few same (inr checked) = let rest : length b.bits ≡ length a.bits - (len + skip) = ap (λ (x : BufferedBits). length x.bits) here ∙ length-drop (len + skip) a.bits in omega (arith, rest, there, checked, same)
+-- bits that are left behind one more
+pub left_on : (count at here there : ℕ) → count ≤ 6 → at < count → 336 + 312 * (count - at) ≤ here → (here ≤ there + 312) ⊎ (2240 ≤ there) → 336 + 312 * (count - (at + 1)) ≤ there
+left_on count at here there few within left (inl short) = omega (arith, left, within, short)
+left_on count at here there few within left (inr checked) = omega (arith, few, within, checked)
 
 -- passes, and a last one
 pub record LastPass (others : List Pass) (pass : Pass) (a : BufferedBits) (len : ℕ) : Type 0 where
@@ -171,7 +170,7 @@ pub record LastPass (others : List Pass) (pass : Pass) (a : BufferedBits) (len :
   pub first : ℕ
   pub all : len ≡ before + (pass.skip + first)
   pub passes : HasPasses others a before
-  pub numbers : HasNumbers pass.chunks.bits pass.count (beyond a (before + pass.skip)) first
+  pub numbers : HasNumbers pass.width pass.count (beyond a (before + pass.skip)) first
 
 pub passes_last : (others : List Pass) (pass : Pass) (a : BufferedBits) (len : ℕ) → HasPasses (others ++ pass ∷ []) a len → LastPass others pass a len
 passes_last [] pass a len h = record {
@@ -179,7 +178,7 @@ passes_last [] pass a len h = record {
   first = h.0;
   all = omega (arith, h.2, h.4);
   passes = refl;
-  numbers = subst (λ (k : ℕ). HasNumbers pass.chunks.bits pass.count (beyond a k) h.0) (let e : pass.skip ≡ 0 + pass.skip = omega arith in e) h.3;
+  numbers = subst (λ (k : ℕ). HasNumbers pass.width pass.count (beyond a k) h.0) (let e : pass.skip ≡ 0 + pass.skip = omega arith in e) h.3;
 }
 passes_last (one ∷ others) pass a len h =
     let l = passes_last others pass (beyond a (one.skip + h.0)) h.1 h.4 in
@@ -189,7 +188,7 @@ passes_last (one ∷ others) pass a len h =
       first = l.first;
       all = omega (arith, h.2, l.all);
       passes = (h.0, l.before, refl, h.3, l.passes);
-      numbers = subst (λ (b : BufferedBits). HasNumbers pass.chunks.bits pass.count b l.first) (beyond_both a (one.skip + h.0) (l.before + pass.skip) ∙ ap (beyond a) place) l.numbers;
+      numbers = subst (λ (b : BufferedBits). HasNumbers pass.width pass.count b l.first) (beyond_both a (one.skip + h.0) (l.before + pass.skip) ∙ ap (beyond a) place) l.numbers;
     }
 
 -- ---- values, one after another
@@ -254,25 +253,25 @@ covers_field ops op bits after more passes a len more_is takes covers h there =
     let all : len + more ≡ len + after + bits = omega (arith, more_is) in
     subst (HasValues (ops ++ op ∷ []) a) (sym all) (values_then ops (op ∷ []) a (len + after) bits (covers h (omega (arith, more_is, there))) (one_value op (beyond a (len + after)) f.value bits f.no_array f.no_blob f.reads))
 
-pub covers_new : (ops : List Op) (others : List Pass) (pass : Pass) (after : ℕ) (a : BufferedBits) (len : ℕ) → pass.skip ≡ after → pass.count ≡ 1 → ((x : ℕ) → HasPasses others a x → x + after ≤ length a.bits → HasValues ops a (x + after)) → HasPasses (others ++ pass ∷ []) a len → len ≤ length a.bits → HasValues (ops ++ Vbr pass.chunks.bits ∷ []) a len
+pub covers_new : (ops : List Op) (others : List Pass) (pass : Pass) (after : ℕ) (a : BufferedBits) (len : ℕ) → pass.skip ≡ after → pass.count ≡ 1 → ((x : ℕ) → HasPasses others a x → x + after ≤ length a.bits → HasValues ops a (x + after)) → HasPasses (others ++ pass ∷ []) a len → len ≤ length a.bits → HasValues (ops ++ Vbr pass.width ∷ []) a len
 covers_new ops others pass after a len skip_is one covers h there =
-    let n : ℕ = pass.chunks.bits in
+    let n : ℕ = pass.width in
     let l = passes_last others pass a len h in
     let f = numbers_front n 0 (beyond a (l.before + pass.skip)) l.first (subst (λ (k : ℕ). HasNumbers n k (beyond a (l.before + pass.skip)) l.first) one l.numbers) in
     let none = numbers_none n (beyond (beyond a (l.before + pass.skip)) f.first) f.more f.later in
     let seen = subst (λ (k : ℕ). Reads (vbr n) (beyond a (l.before + k)) f.value (beyond (beyond a (l.before + k)) f.first)) skip_is f.reads in
     number_behind ops n a f.value (l.before + after) f.first len (omega (arith, l.all, f.all, none, skip_is)) (covers l.before l.passes (omega (arith, l.all, skip_is, there))) seen
 
-pub covers_longer : (ops : List Op) (others : List Pass) (last pass : Pass) (after : ℕ) (a : BufferedBits) (len : ℕ) → after ≡ 0 → pass.skip ≡ last.skip → pass.count ≡ last.count + 1 → pass.chunks.bits ≡ last.chunks.bits → ((x : ℕ) → HasPasses (others ++ last ∷ []) a x → x + after ≤ length a.bits → HasValues ops a (x + after))
-    → HasPasses (others ++ pass ∷ []) a len → len ≤ length a.bits → HasValues (ops ++ Vbr pass.chunks.bits ∷ []) a len
+pub covers_longer : (ops : List Op) (others : List Pass) (last pass : Pass) (after : ℕ) (a : BufferedBits) (len : ℕ) → after ≡ 0 → pass.skip ≡ last.skip → pass.count ≡ last.count + 1 → pass.width ≡ last.width → ((x : ℕ) → HasPasses (others ++ last ∷ []) a x → x + after ≤ length a.bits → HasValues ops a (x + after))
+    → HasPasses (others ++ pass ∷ []) a len → len ≤ length a.bits → HasValues (ops ++ Vbr pass.width ∷ []) a len
 covers_longer ops others last pass after a len none skip_is count_is same covers h there =
-    let n : ℕ = pass.chunks.bits in
+    let n : ℕ = pass.width in
     let l = passes_last others pass a len h in
     let next : pass.count ≡ suc last.count = omega (arith, count_is) in
     let b : BufferedBits = beyond a (l.before + pass.skip) in
     let m = numbers_last n last.count b l.first (subst (λ (k : ℕ). HasNumbers n k b l.first) next l.numbers) in
     let x : ℕ = l.before + (last.skip + m.before) in
-    let first : HasNumbers last.chunks.bits last.count (beyond a (l.before + last.skip)) m.before = subst (λ (k : ℕ). HasNumbers last.chunks.bits last.count (beyond a (l.before + k)) m.before) skip_is (subst (λ (k : ℕ). HasNumbers k last.count b m.before) same m.first) in
+    let first : HasNumbers last.width last.count (beyond a (l.before + last.skip)) m.before = subst (λ (k : ℕ). HasNumbers last.width last.count (beyond a (l.before + k)) m.before) skip_is (subst (λ (k : ℕ). HasNumbers k last.count b m.before) same m.first) in
     let old : HasPasses (others ++ last ∷ []) a x = passes_more others last a l.before m.before l.passes first in
     let values : HasValues ops a (x + after) = covers x old (omega (arith, none, l.all, m.all, skip_is, there)) in
     let place : l.before + pass.skip + m.before ≡ x + after = omega (arith, none, skip_is) in

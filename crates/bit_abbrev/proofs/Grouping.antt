@@ -1,4 +1,4 @@
--- Plans of the first definitions, groups of definitions, and one definition more.
+-- Groups of definitions, and one definition more.
 use Rattle.std.proofs.Common.{◌≡◌, ◌≢◌, ℕ, ◌+◌, ◌-◌, ◌<◌, ◌≤◌, zero, suc, true, false, cond, List, [], ◌∷◌, ◌++◌, length, Option, Some, refl, sym, ap, ◌∙◌, subst, arith, inl, inr, nat_eq, slice_get, set}
 use Rattle.std.specs.Option.{option_map_or}
 use Rattle.std.proofs.lemmas.Bool.{cases_eq, eq-eqb, ne_eqb}
@@ -7,35 +7,12 @@ use Rattle.std.proofs.Math.ListN.{length-set}
 use Rattle.std.proofs.lemmas.Option.{slice_get-get_or, slice_get_past}
 use Rattle.bit_grammar.specs.declared.op.Op.{Op}
 use Rattle.bit_grammar.specs.Terms.{defined_at}
-use Rattle.bit_abbrev.specs.declared.plan.Plan.{Plan}
-use Rattle.bit_abbrev.specs.Groups.{AreFirst, IsPlaceOf, ready_at, ready_for}
-use Rattle.bit_abbrev.specs.Plans.{ArePlans, IsPlan}
+use Rattle.bit_abbrev.specs.Groups.{IsPlaceOf, ready_at, ready_for}
 use Rattle.bit_abbrev.specs.HeldLists.{all_of}
 use Rattle.bit_abbrev.specs.Ready.{last_one}
 use Rattle.bit_abbrev.proofs.HeldLists.{all_and_one}
 
 -- ---- definitions of one id
-
-pub first_still : (definitions more : List (List Op)) (plans : List Plan) → AreFirst definitions plans → AreFirst (definitions ++ more) plans
-first_still definitions more [] h = tt
-first_still [] more (plan ∷ plans) h = absurd h
-first_still (ops ∷ definitions) more (plan ∷ plans) h = (h.0, first_still definitions more plans h.1)
-
-pub first_more : (definitions : List (List Op)) (plans : List Plan) (ops : List Op) (plan : Plan) → length plans ≡ length definitions → AreFirst definitions plans → IsPlan ops plan → AreFirst (definitions ++ ops ∷ []) (plans ++ plan ∷ [])
-first_more [] [] ops plan same h is = (is, tt)
-first_more (one ∷ definitions) [] ops plan same h is = absurd (omega (arith, same))
-first_more [] (one ∷ plans) ops plan same h is = absurd h
-first_more (one ∷ definitions) (other ∷ plans) ops plan same h is = (h.0, first_more definitions plans ops plan (omega (arith, same)) h.1 is)
-
-pub by_index : (definitions : List (List Op)) (plans : List Plan) → AreFirst definitions plans → ArePlans definitions plans
-by_index definitions [] h i plan at = absurd (none i plan at)
-  where
-    none : (i : ℕ) (plan : Plan) → slice_get {X = Plan} [] i ≡ Some plan → ⊥
-    none zero plan at = cc
-    none (suc i) plan at = cc
-by_index [] (one ∷ plans) h i plan at = absurd h
-by_index (ops ∷ definitions) (one ∷ plans) h zero plan at = (ops, refl, subst (IsPlan ops) (let e : one ≡ plan = cc in e) h.0)
-by_index (ops ∷ definitions) (one ∷ plans) h (suc i) plan at = by_index definitions plans h.1 i plan at
 
 pub last_more : (xs : List (List Op)) (x : List Op) → last_one (xs ++ x ∷ []) ≡ Some x
 last_more xs x =

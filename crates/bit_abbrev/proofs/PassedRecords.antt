@@ -225,27 +225,30 @@ two_before a v b w c first second =
 pub small_product : (x y : ℕ) → x < 2 ^ 15 → y ≤ 255 → x * y ≤ 2 ^ 23
 small_product x y few small = let h : x * y ≤ 32768 * 255 = mul-le-mul (let e : x ≤ 32768 = omega (arith, few) in e) small in omega (arith, h)
 
-pub sixes_array : (plan : Plan) (which : Rest) (tail : List Op) (a : BufferedBits) (count : ℕ) (b : BufferedBits) (len : ℕ) → which ≡ rest.Sixes → HasRest plan which tail → Reads (vbr 6) a count b → HasNumbers 6 (1 + count) a len → HasArray tail count a len
-sixes_array plan which tail a count b len is has seen h =
-    let tail_is : tail ≡ Array ∷ Vbr 6 ∷ [] = subst (λ (r : Rest). HasRest plan r tail) is has in
+pub sixes_array : (width : ℕ) (which : Rest) (tail : List Op) (a : BufferedBits) (count : ℕ) (b : BufferedBits) (len : ℕ) → which ≡ rest.Sixes → HasRest width which tail → Reads (vbr 6) a count b → HasNumbers 6 (1 + count) a len → HasArray tail count a len
+sixes_array width which tail a count b len is has seen h =
+    let tail_is : tail ≡ Array ∷ Vbr 6 ∷ [] = subst (λ (r : Rest). HasRest width r tail) is has in
     let x = behind_first 6 count (1 + count) a count b len (omega arith) seen h in
     has_array (Vbr 6) a count b x.first x.more len tail tail_is x.all seen x.here (number_elements 6 count b x.more x.numbers)
 
-pub numbers_array : (plan : Plan) (which : Rest) (tail : List Op) (a : BufferedBits) (count : ℕ) (b : BufferedBits) (more len : ℕ) → which ≡ rest.Numbers → HasRest plan which tail → Reads (vbr 6) a count b → HasNumbers plan.chunks.bits count b more → len ≡ b.position - a.position + more → HasArray tail count a len
-numbers_array plan which tail a count b more len is has seen h len_is =
-    let n : ℕ = plan.chunks.bits in
-    let tail_is : tail ≡ Array ∷ Vbr n ∷ [] = subst (λ (r : Rest). HasRest plan r tail) is has in
+pub numbers_array : (width : ℕ) (which : Rest) (tail : List Op) (a : BufferedBits) (count : ℕ) (b : BufferedBits) (more len : ℕ) → which ≡ rest.Numbers → HasRest width which tail → Reads (vbr 6) a count b → HasNumbers width count b more → len ≡ b.position - a.position + more → HasArray tail count a len
+numbers_array width which tail a count b more len is has seen h len_is =
+    let n : ℕ = width in
+    let tail_is : tail ≡ Array ∷ Vbr n ∷ [] = subst (λ (r : Rest). HasRest width r tail) is has in
     has_array (Vbr n) a count b (b.position - a.position) more len tail tail_is len_is seen (left_is (vbr 6) a count b seen) (number_elements n count b more h)
 
-pub fields_array : (plan : Plan) (which : Rest) (tail : List Op) (a : BufferedBits) (count : ℕ) (b : BufferedBits) (len : ℕ) → (which ≡ rest.Nothing → ⊥) → (which ≡ rest.Odd → ⊥) → (which ≡ rest.Sixes → ⊥) → (which ≡ rest.Numbers → ⊥) → HasRest plan which tail → Reads (vbr 6) a count b → count * plan.width ≤ length b.bits → len ≡ b.position - a.position + count * plan.width → HasArray tail count a len
-fields_array plan rest.Nothing tail a count b len nothing odd sixes numbers has seen there len_is = absurd (nothing refl)
-fields_array plan rest.Odd tail a count b len nothing odd sixes numbers has seen there len_is = absurd (odd refl)
-fields_array plan rest.Sixes tail a count b len nothing odd sixes numbers has seen there len_is = absurd (sixes refl)
-fields_array plan rest.Numbers tail a count b len nothing odd sixes numbers has seen there len_is = absurd (numbers refl)
-fields_array plan rest.Fields tail a count b len nothing odd sixes numbers has seen there len_is =
-    has_array has.0 a count b (b.position - a.position) (count * plan.width) len tail has.1 len_is seen (left_is (vbr 6) a count b seen) (field_elements has.0 plan.width count b has.2 there)
+pub fields_array : (width : ℕ) (which : Rest) (tail : List Op) (a : BufferedBits) (count : ℕ) (b : BufferedBits) (len : ℕ) → (which ≡ rest.Nothing → ⊥) → (which ≡ rest.Odd → ⊥) → (which ≡ rest.Sixes → ⊥) → (which ≡ rest.Numbers → ⊥) → HasRest width which tail → Reads (vbr 6) a count b → count * width ≤ length b.bits → len ≡ b.position - a.position + count * width → HasArray tail count a len
+fields_array width rest.Nothing tail a count b len nothing odd sixes numbers has seen there len_is = absurd (nothing refl)
+fields_array width rest.Odd tail a count b len nothing odd sixes numbers has seen there len_is = absurd (odd refl)
+fields_array width rest.Sixes tail a count b len nothing odd sixes numbers has seen there len_is = absurd (sixes refl)
+fields_array width rest.Numbers tail a count b len nothing odd sixes numbers has seen there len_is = absurd (numbers refl)
+fields_array width rest.Fields tail a count b len nothing odd sixes numbers has seen there len_is =
+    has_array has.0 a count b (b.position - a.position) (count * width) len tail has.1 len_is seen (left_is (vbr 6) a count b seen) (field_elements has.0 width count b has.2 there)
 
 -- ---- the record of a plan
+
+pub not_odd : (r : Rest) → r ≡ rest.Nothing → r ≡ rest.Odd → ⊥
+not_odd r is odd = cc
 
 -- what the passes of a plan go over
 pub covered : (others : List Op) (passes : Passes) (a : BufferedBits) (len : ℕ) → Covers others passes → (passed : ℕ) × (len ≡ passed + passes.after) × HasPasses (take passes.count passes.pass) a passed → len ≤ length a.bits → HasValues others a len

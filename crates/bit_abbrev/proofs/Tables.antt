@@ -6,12 +6,9 @@ use Rattle.std.proofs.Math.Path.{fun_ext}
 use Rattle.bit_grammar.specs.declared.op.Op.{Op}
 use Rattle.bit_grammar.specs.Terms.{defined_at}
 use Rattle.bit_abbrev.specs.declared.held.HeldList.{HeldList}
-use Rattle.bit_abbrev.specs.declared.plan.Plan.{Plan}
-use Rattle.bit_abbrev.specs.Groups.{AreFirst, ready_for}
+use Rattle.bit_abbrev.specs.Groups.{ready_for}
 use Rattle.bit_abbrev.specs.HeldLists.{held_for}
-use Rattle.bit_abbrev.specs.Plans.{ArePlans}
 use Rattle.bit_abbrev.specs.Ready.{AreReady, InfoLists, later_list, newest_of, table_of}
-use Rattle.bit_abbrev.proofs.Grouping.{by_index, first_still}
 use Rattle.bit_abbrev.proofs.HeldLists.{defined}
 use Rattle.bit_abbrev.proofs.Places.{in_front, behind_all}
 
@@ -69,11 +66,3 @@ own_ready own behind = record {
   first = λ i ops at. in_front [] (own ++ behind) i ops at;
   behind = λ i ops at. behind_all [] (own ++ behind) i ∙ in_front own behind i ops at;
 }
-
--- plans of the first ones that are ready
-pub plans_first : (lists : InfoLists) (id : ℕ) (others : List (List Op)) (plans : List Plan) → AreFirst (ready_for lists.ready id) plans → ArePlans (table_of lists id ++ others) plans
-unfolding table_of
-plans_first lists id others plans first =
-    let ready = ready_for lists.ready id in
-    let held = held_for lists.later id in
-    by_index ((ready ++ held) ++ others) plans (first_still (ready ++ held) others plans (first_still ready held plans first))

@@ -1,16 +1,8 @@
--- Groups of definitions for block ids, and plans of the first ones.
+-- Groups of definitions for block ids.
 use Rattle.std.specs.Prelude.{◌≡◌, ◌≢◌, ℕ, ◌<◌, ◌≤◌, List, [], ◌∷◌, Some, length, nat_eq, if◌then◌else◌, slice_get}
 use Rattle.std.specs.Option.{option_map_or}
 use Rattle.bit_grammar.specs.declared.op.Op.{Op}
 use Rattle.bit_grammar.specs.Terms.{Table}
-use Rattle.bit_abbrev.specs.declared.plan.Plan.{Plan}
-use Rattle.bit_abbrev.specs.Plans.{IsPlan}
-
--- these are plans of the first definitions, in their order
-abbrev pub AreFirst : List (List Op) → List Plan → Type 0
-AreFirst definitions [] = Unit {0}
-AreFirst [] (plan ∷ plans) = ⊥
-AreFirst (ops ∷ definitions) (plan ∷ plans) = IsPlan ops plan × AreFirst definitions plans
 
 -- the definitions for a block id, of the first group for it
 abbrev pub ready_for : List (ℕ × List (List Op)) → Table

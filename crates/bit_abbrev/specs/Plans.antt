@@ -1,5 +1,5 @@
 -- How a record is passed over: bits to skip, and numbers of which only the ends are found.
-use Rattle.std.specs.Prelude.{◌≡◌, ◌≢◌, ℕ, ◌+◌, ◌≤◌, true, List, [], ◌∷◌, ◌++◌, length, take, Some, slice_get}
+use Rattle.std.specs.Prelude.{◌≡◌, ◌≢◌, ℕ, ◌+◌, ◌≤◌, true, List, [], ◌∷◌, ◌++◌, length, take}
 use Rattle.bit_grammar.specs.declared.op.Op.{Op}
 use Rattle.bit_grammar.specs.declared.op.Op.TheVariants.{Literal, Fixed, Vbr, Array, Char6, Blob}
 use Rattle.bit_grammar.specs.Definition.{has_shape}
@@ -19,7 +19,7 @@ use Rattle.bit_abbrev.specs.declared.plan.Rest.TheVariants as rest
 abbrev pub HasPasses : List Pass → BufferedBits → (len : ℕ) → Type 0
 HasPasses [] a len = len ≡ 0
 HasPasses (pass ∷ others) a len = (first more : ℕ) × (len ≡ pass.skip + first + more)
-    × HasNumbers pass.chunks.bits pass.count (beyond a pass.skip) first
+    × HasNumbers pass.width pass.count (beyond a pass.skip) first
     × HasPasses others (beyond a (pass.skip + first)) more
 
 -- one value of each operand comes first, and all take so many bits
@@ -42,14 +42,13 @@ TakesBits (Vbr width) bits = (width ≡ 0) × (bits ≡ 0)
 TakesBits Char6 bits = bits ≡ 6
 TakesBits _ bits = ⊥
 
--- what comes after the single operands, if the plan passes over anything
-abbrev pub HasRest : Plan → Rest → List Op → Type 0
-HasRest plan rest.Nothing tail = tail ≡ []
-HasRest plan rest.Sixes tail = tail ≡ Array ∷ Vbr 6 ∷ []
-HasRest plan rest.Fields tail = (element : Op) × (tail ≡ Array ∷ element ∷ [])
-    × TakesBits element plan.width
-HasRest plan rest.Numbers tail = tail ≡ Array ∷ Vbr plan.chunks.bits ∷ []
-HasRest plan rest.Odd tail = Unit {0}
+-- what comes after the single operands, if the plan passes over anything; the bits of an array's element
+abbrev pub HasRest : (width : ℕ) → Rest → List Op → Type 0
+HasRest width rest.Nothing tail = tail ≡ []
+HasRest width rest.Sixes tail = tail ≡ Array ∷ Vbr 6 ∷ []
+HasRest width rest.Fields tail = (element : Op) × (tail ≡ Array ∷ element ∷ []) × TakesBits element width
+HasRest width rest.Numbers tail = tail ≡ Array ∷ Vbr width ∷ []
+HasRest width rest.Odd tail = Unit {0}
 
 -- An array of so many elements comes first, and takes so many bits.
 abbrev pub HasArray : List Op → (count : ℕ) → BufferedBits → (len : ℕ) → Type 0
@@ -65,16 +64,11 @@ pub record PlanOf (ops : List Op) (plan : Plan) : Type 0 where
   pub shape : has_shape ops ≡ true
   pub count : length others ≡ plan.singles
   pub covers : Covers others plan.passes
-  pub rest : HasRest plan plan.rest tail
+  pub rest : HasRest plan.width plan.rest tail
 
 -- the same, unless the plan passes over nothing
 abbrev pub IsPlan : List Op → Plan → Type 0
 IsPlan ops plan = plan.rest ≢ rest.Odd → PlanOf ops plan
-
--- Each plan is one of the definition at its index.
-abbrev pub ArePlans : List (List Op) → List Plan → Type 0
-ArePlans definitions plans = (i : ℕ) (plan : Plan) → slice_get plans i ≡ Some plan
-    → (ops : List Op) × (slice_get definitions i ≡ Some ops) × IsPlan ops plan
 
 -- A record that a rule reads from these bits was passed over.
 abbrev pub PassesOver : Grammar CodeAndValues → BufferedBits → Passed → Type 0

@@ -5,6 +5,7 @@ ghost use Rattle.bit_grammar.specs.Definition.{fits, place_after, kind_of, has_s
 ghost use Rattle.bit_grammar.specs.FormatDefinition.{Definable, Lawful};
 ghost use Rattle.bit_abbrev.specs.Operands.{HasTail};
 ghost use Rattle.bit_abbrev.specs.Layouts.{HasLayout};
+ghost use Rattle.bit_abbrev.specs.Plans.{IsPlan};
 ghost use Rattle.bit_abbrev.specs.Breaks.{IsFirstBreak, LiteralFits, break_of};
 
 use crate::layout::{Layout, layout_of};
@@ -32,36 +33,22 @@ pub struct BadAbbrev {
 }
 
 /// The definition of an abbreviation: operands with lawful values. If their order is not lawful, no record may use it.
-#[derive(Debug, Drop)]
+#[derive(Drop)]
 pub struct Abbrev {
     ops: Ops,
     usable: bool,
-    tail: LaidOut,
-    plan: Unshown,
-}
-
-/// How its records are passed over. It has no text.
-#[derive(Clone, Copy)]
-struct Unshown {
+    tail: Tail,
+    layout: Layout,
     plan: Plan,
 }
 
-impl fmt::Debug for Unshown {
+impl fmt::Debug for Abbrev {
     fn fmt<W: fmt::Write>(&self, f: &mut fmt::Formatter<W>) -> fmt::Result {
-        Ok(())
-    }
-}
-
-/// What follows the operands that stand for one value each, and how a record's fields are laid out. Its text is the first alone.
-#[derive(Clone, Copy)]
-struct LaidOut {
-    tail: Tail,
-    layout: Layout,
-}
-
-impl fmt::Debug for LaidOut {
-    fn fmt<W: fmt::Write>(&self, f: &mut fmt::Formatter<W>) -> fmt::Result {
-        self.tail.fmt(f)
+        f.debug_struct("Abbrev")
+            .field("ops", &self.ops)
+            .field("usable", &self.usable)
+            .field("tail", &self.tail)
+            .finish()
     }
 }
 
@@ -72,6 +59,7 @@ impl Model for Abbrev {
     ghost use Rattle.bit_grammar.specs.FormatDefinition.{Definable};
     ghost use Rattle.bit_abbrev.specs.Operands.{HasTail};
     ghost use Rattle.bit_abbrev.specs.Layouts.{HasLayout};
+    ghost use Rattle.bit_abbrev.specs.Plans.{IsPlan};
 
     ghost Value = { List Op };
 
@@ -79,8 +67,9 @@ impl Model for Abbrev {
 
     ghost invariant = { λ definition. Definable definition.ops.items
         × (definition.usable ≡ has_shape definition.ops.items)
-        × (definition.usable ≡ true → HasTail definition.ops.items definition.tail.tail)
-        × HasLayout definition.ops.items definition.tail.layout };
+        × (definition.usable ≡ true → HasTail definition.ops.items definition.tail)
+        × HasLayout definition.ops.items definition.layout
+        × IsPlan definition.ops.items definition.plan };
 }
 
 /// Whether an operand of this kind may be at a place, with `after` operands after it.
@@ -178,12 +167,12 @@ impl Abbrev {
             None => {
                 let tail = tail_of(ops.as_slice());
                 let layout = layout_of(ops.as_slice(), true, tail);
-                let plan = Plan::of(ops.as_slice(), true);
                 Ok(Abbrev {
                     ops,
                     usable: true,
-                    tail: LaidOut { tail, layout },
-                    plan: Unshown { plan },
+                    tail,
+                    layout,
+                    plan: Plan::odd(),
                 })
             }
             Some((at, reason)) => Err(BadAbbrev { ops, at, reason }),
@@ -198,12 +187,12 @@ impl Abbrev {
         let usable = has_shape(ops.as_slice());
         let tail = tail_of(ops.as_slice());
         let layout = layout_of(ops.as_slice(), usable, tail);
-        let plan = Plan::of(ops.as_slice(), usable);
         Abbrev {
             ops,
             usable,
-            tail: LaidOut { tail, layout },
-            plan: Unshown { plan },
+            tail,
+            layout,
+            plan: Plan::odd(),
         }
     }
 
@@ -236,14 +225,30 @@ impl Abbrev {
     pub fn layout(&self) -> Layout
         ensures { HasLayout self.now result }
     {
-        self.tail.layout
+        self.layout
+    }
+
+    /// The same, with a plan: its records are passed over sooner.
+    #[inline(always)]
+    pub fn planned(self) -> Abbrev
+        ensures { result ≡ self }
+    {
+        let plan = Plan::of(&self);
+        Abbrev {
+            ops: self.ops,
+            usable: self.usable,
+            tail: self.tail,
+            layout: self.layout,
+            plan,
+        }
     }
 
     /// How its records are passed over.
     #[inline(always)]
     pub fn plan(&self) -> &Plan
+        ensures { IsPlan self.now result.now }
     {
-        &self.plan.plan
+        &self.plan
     }
 
     /// What follows the operands that stand for one value each.
@@ -252,7 +257,7 @@ impl Abbrev {
         requires { has_shape self.now ≡ true }
         ensures { HasTail self.now result }
     {
-        self.tail.tail
+        self.tail
     }
 
     /// A copy, with the same operands.
@@ -265,6 +270,7 @@ impl Abbrev {
             ops,
             usable: self.usable,
             tail: self.tail,
+            layout: self.layout,
             plan: self.plan,
         })
     }

@@ -6,7 +6,6 @@ ghost use Rattle.bit_grammar.specs.Definition.{operands};
 ghost use Rattle.bit_grammar.specs.declared.op.Place.TheVariants.{First};
 ghost use Rattle.bit_grammar.specs.Terms.{no_definitions};
 ghost use Rattle.bit_abbrev.specs.Defining.{AddsRead};
-ghost use Rattle.bit_abbrev.specs.Plans.{ArePlans};
 ghost use Rattle.bit_abbrev.specs.HeldLists.{all_of};
 ghost use Rattle.bit_abbrev.specs.InForce.{found_if_any};
 ghost use Rattle.bit_abbrev.specs.Ready.{either, later_list, table_of};

@@ -1,7 +1,9 @@
 //! How a record is passed over: bits to skip, and numbers whose last bits are found in a load.
 
+ghost use Rattle.std.specs.Prelude.{◌≡◌, ◌<◌, ◌≤◌, true, slice_get};
 ghost use Rattle.std.specs.Option.{ForSome};
-ghost use Rattle.std.specs.Prelude.{◌<◌, ◌≤◌, slice_get};
+ghost use Rattle.bit_fields.specs.Placed.{AreTopsBehind};
+ghost use Rattle.bit_abbrev.specs.declared.plan.Rest.TheVariants.{Nothing, Numbers};
 
 mod adding;
 mod making;
@@ -57,14 +59,20 @@ enum Rest {
 #[derive(Clone, Copy)]
 pub struct Plan {
     code: u64,
-    /// The top bits of the first pass's numbers in a load of what it skips and them.
+    /// The top bits of the first pass's chunks in a load that begins with what the pass skips.
     tops: u64,
     passes: Passes,
     rest: Rest,
-    /// The bits of an array's element that is a field, or of its chunks.
+    /// Whether there is one pass, and nothing after the single operands, as most often.
+    alone: bool,
+    /// The bits of an array's element: of the field, or of a chunk of the number.
     width: u8,
     /// How many values the single operands have.
     singles: u8,
+    ghost begins: { ForSome (slice_get passes.pass 0) (λ first. AreTopsBehind first.width first.skip tops) },
+    ghost one: { alone ≡ true → (rest ≡ Nothing) × (passes.count ≡ 1) },
+    ghost least: { rest ≡ Numbers → 2 ≤ width },
+    ghost most: { rest ≡ Numbers → width ≤ 32 },
 }
 
 /// A record that was passed over: the length of its fields in bits, its code and how many values it has.

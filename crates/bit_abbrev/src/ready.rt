@@ -6,7 +6,7 @@ ghost use Rattle.bit_grammar.specs.declared.op.Op.{Op};
 ghost use Rattle.bit_grammar.specs.declared.op.Place.TheVariants.{First};
 ghost use Rattle.bit_grammar.specs.Terms.{defined_at};
 ghost use Rattle.bit_abbrev.specs.Defining.{AddsRead};
-ghost use Rattle.bit_abbrev.specs.Groups.{AreFirst, IsPlaceOf, ready_at, ready_for};
+ghost use Rattle.bit_abbrev.specs.Groups.{IsPlaceOf, ready_at, ready_for};
 ghost use Rattle.bit_abbrev.specs.HeldLists.{held_for, InOrder};
 ghost use Rattle.bit_abbrev.specs.Ready.{either, last_one, later_list, newest_of, newest_ready_of};
 
@@ -61,7 +61,7 @@ impl Room {
     }
 }
 
-/// The definitions for a block id that are ready, and the plans of the first of them.
+/// The definitions for a block id that are ready.
 #[derive(Drop)]
 pub(crate) struct ReadyGroup {
     id: u32,
@@ -71,7 +71,6 @@ pub(crate) struct ReadyGroup {
 impl Model for ReadyGroup {
     ghost use Rattle.std.specs.Prelude.{ℕ, List};
     ghost use Rattle.bit_grammar.specs.declared.op.Op.{Op};
-    ghost use Rattle.bit_abbrev.specs.Groups.{AreFirst};
 
     ghost Value = { ℕ × List (List Op) };
 

@@ -70,7 +70,7 @@ impl<S: Source, V: ValueKeeper> EventFinder<S, V> {
             limits,
             head,
             reader,
-            machine: Machine::new(alloc),
+            machine: Machine::new(alloc, false),
             values: WithFirst::new(V::empty(alloc)),
             found: None,
             reached,

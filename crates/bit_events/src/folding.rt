@@ -352,7 +352,8 @@ pub fn fold<S: Source, G: Gatherer + Drop>(
     };
     let mut reader = reader;
     let mut gatherer = gatherer;
-    let mut machine = Machine::new(alloc);
+    let planned = gatherer.passes() && gatherer.by_plans();
+    let mut machine = Machine::new(alloc, planned);
     let done = gather_rest(alloc, &mut reader, &mut machine, &limits, &mut gatherer);
     let after = reader.position();
     let source = reader.into_source();

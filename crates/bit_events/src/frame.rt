@@ -122,7 +122,7 @@ impl Frame {
         }
     }
 
-    /// Reads the operands of a definition, after their number, and adds it.
+    /// Reads the operands of a definition, after their number, and adds it, with a plan if it is to have one.
     #[inline(always)]
     fn read<S: Source>(
         &mut self,
@@ -130,6 +130,7 @@ impl Frame {
         reader: &mut BitReader<S>,
         shapes: Shapes,
         count: u64,
+        planned: bool,
     ) -> Result<(), Fault>
         requires describes { may_define (info_shown self.old.info) ≡ true }
         requires some { 0 < count }
@@ -142,17 +143,20 @@ impl Frame {
             return self.read_held(reader, shapes, count);
         }
         let abbrev = read_ops(alloc, reader, shapes, count)?;
+        let abbrev = if planned { abbrev.planned() } else { abbrev };
         or_memory_fault(reader, self.put(abbrev))?;
         Ok(())
     }
 }
 
-/// Reads a definition, after its id, which began at `first`, and returns the bit after it. It is then the newest one.
+/// Reads a definition, after its id, which began at `first`, and returns the bit after it. It is then the newest one, with a plan if
+/// it is to have one.
 pub(crate) fn define<S: Source>(
     alloc: Global,
     reader: &mut BitReader<S>,
     shapes: Shapes,
     frame: &mut Frame,
+    planned: bool,
     first: u64,
 ) -> Result<u64, Fault>
     requires { reader.old.live ≡ true }
@@ -171,7 +175,7 @@ pub(crate) fn define<S: Source>(
 {
     reader.judge(frame.may_define(), Reason::NoBlockSet, first)?;
     let count = read_count(reader)?;
-    frame.read(alloc, reader, shapes, count)?;
+    frame.read(alloc, reader, shapes, count, planned)?;
     Ok(reader.position())
 }
 

@@ -93,6 +93,12 @@ pub trait Gatherer {
         false
     }
 
+    /// Whether `pass` goes by plans of definitions, so that they are made.
+    #[inline(always)]
+    fn by_plans(&self) -> bool {
+        true
+    }
+
     /// Gathers records of the innermost block which come first in these bits: as many as it likes. Their ids have this width, and
     /// they have at most `room` values.
     #[inline(always)]

@@ -59,6 +59,8 @@ pub(crate) struct Machine {
     pub(crate) frames: Vec<Frame>,
     pub(crate) table: SharedInfo,
     pub(crate) used: u64,
+    /// Whether definitions get plans.
+    pub(crate) planned: bool,
     /// The last definition that was lent, if it had to be made anew.
     made: Option<Abbrev>,
 }
@@ -89,7 +91,7 @@ impl Step {
 
 impl Machine {
     /// No block is open, and nothing was read.
-    pub(crate) fn new(alloc: Global) -> Machine
+    pub(crate) fn new(alloc: Global, planned: bool) -> Machine
         ensures machine { machine_shown result ≡ at_start }
         ensures none { vec_len result.frames ≡ 0 }
     {
@@ -97,6 +99,7 @@ impl Machine {
             frames: Vec::new(alloc),
             table: SharedInfo::new(),
             used: 0,
+            planned,
             made: None,
         }
     }
@@ -398,7 +401,7 @@ impl Machine {
         let Some(frame) = self.frames.last_mut() else {
             unreachable!();
         };
-        let after = define(alloc, reader, limits.shapes(), frame, first)?;
+        let after = define(alloc, reader, limits.shapes(), frame, self.planned, first)?;
         Ok(Step::Define { first, after })
     }
 

@@ -119,7 +119,7 @@ impl<'a> SliceEvents<'a> {
             head,
             reader,
             buffered,
-            machine: Machine::new(alloc),
+            machine: Machine::new(alloc, false),
             values: WithFirst::new(PackedValues::new(alloc)),
             found: None,
             over: false,
@@ -224,6 +224,8 @@ impl<'a> SliceEvents<'a> {
         ensures fails { IfErr result (λ fault. (count : ℕ) × (mid : Coming)
             × PassesEvents count self.old mid × BreaksOff mid fault self.new) }
     {
+        // Definitions that are found from here on get plans.
+        self.machine.planned = true;
         let mut left = most;
         while left > 0 {
             left -= self.pass_records(left);

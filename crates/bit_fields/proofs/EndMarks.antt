@@ -82,7 +82,7 @@ abbrev pub clears : (count x : ℕ) → ℕ
 clears zero x = x
 clears (suc count) x = clears count (cleared x)
 
-clears_high : (count m y : ℕ) → clears count (2 ^ m * y) ≡ 2 ^ m * clears count y
+pub clears_high : (count m y : ℕ) → clears count (2 ^ m * y) ≡ 2 ^ m * clears count y
 clears_high zero m y = refl
 clears_high (suc count) m y = ap (clears count) (cleared_high m y) ∙ clears_high count m (cleared y)
 

@@ -30,6 +30,7 @@ pub mod SixBits
 pub mod SixBitSums
 pub mod SixBitForms
 pub mod EndMarks
+pub mod TopsBehind
 pub mod Placing
 pub mod LongSixes
 pub mod PlainRecords

@@ -1,11 +1,12 @@
 -- Buffered bits at a place of bytes, and what a load of them shows.
-use Rattle.std.specs.Prelude.{◌≡◌, ℕ, suc, ◌+◌, ◌%◌, ◌^◌, ◌<◌, ◌≤◌, ◌↔◌, Bool, List, length, take, drop}
+use Rattle.std.specs.Prelude.{◌≡◌, ℕ, suc, ◌+◌, ◌*◌, ◌%◌, ◌^◌, ◌<◌, ◌≤◌, ◌↔◌, Bool, List, length, take, drop, get_or}
 use Rattle.std.specs.Int.{w64, bit_at, bit_not}
 use Rattle.bit_grammar.specs.Bits.{bits_of, bits_of_bytes}
 use Rattle.bit_grammar.specs.Grammar.{repeat}
 use Rattle.bit_grammar.specs.Fields.{vbr}
 use Rattle.bit_fields.specs.Buffered.{BufferedBits, Reads, beyond}
 use Rattle.bit_fields.specs.SixBits.{TakesShortest}
+use Rattle.bit_fields.specs.declared.placed.numbers.TheConstants.{TOPS_OF}
 
 -- the bits from a place of bytes on
 abbrev pub bits_at : (start at : ℕ) → (bytes : List ℕ) → BufferedBits
@@ -20,6 +21,10 @@ pub record Shows (ends : ℕ) (bits : List Bool) : Type 0 where
 pub record AreTops (n tops : ℕ) : Type 0 where
   pub below : tops < 2 ^ 57
   pub each : (i : ℕ) → i < 57 → (bit_at tops i ≡ 1) ↔ (suc i % n ≡ 0)
+
+-- those of chunks that come behind so many bits, as far as a word of 64 bits has them
+abbrev pub AreTopsBehind : (n bits tops : ℕ) → Type 0
+AreTopsBehind n bits tops = tops ≡ get_or TOPS_OF n 0 * 2 ^ bits % 2 ^ 64
 
 -- numbers in chunks of n bits come first, so many, and take so many bits
 abbrev pub HasNumbers : (n count : ℕ) → BufferedBits → (len : ℕ) → Type 0

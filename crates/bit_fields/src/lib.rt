@@ -57,7 +57,7 @@ pub use limits::Limits;
 pub use numbers::character;
 pub use packed::{PackedValues, ValueParts};
 pub use pen::{put, put_front, put_number, put_two, take_back};
-pub use placed::{ChunkTops, LoadedBits, PlacedBits};
+pub use placed::{ChunkTops, LoadedBits, PlacedBits, tops_behind};
 pub use reader::BitReader;
 pub use sink::{Sink, SinkFailed, VecSink, WriteSink};
 pub use source::{BufSource, ReadSource, SliceSource, Source, SourceFailed};

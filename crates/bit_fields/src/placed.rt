@@ -12,6 +12,8 @@ mod numbers;
 mod tops;
 mod values;
 
+pub use tops::tops_behind;
+
 /// Buffered bits of a stream, from a position on.
 #[derive(Clone, Copy)]
 pub struct PlacedBits<'a> {

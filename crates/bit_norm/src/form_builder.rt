@@ -399,6 +399,11 @@ impl<'a> Gatherer for FormBuilder<'a> {
     }
 
     #[inline(always)]
+    fn by_plans(&self) -> bool {
+        false
+    }
+
+    #[inline(always)]
     fn pass(
         &mut self,
         bits: PlacedBits<'_>,

@@ -1,13 +1,15 @@
 //! The passes of operands that give one value each.
 
-ghost use Rattle.std.specs.Prelude.{◌≡◌, ◌≤◌, true, false, List, [], ◌∷◌, ◌++◌};
+ghost use Rattle.std.specs.Prelude.{◌≡◌, ◌≤◌, true, false, List, [], ◌∷◌, ◌++◌, slice_get};
+ghost use Rattle.std.specs.Option.{ForSome};
 ghost use Rattle.bit_grammar.specs.declared.op.Op.{Op};
 ghost use Rattle.bit_grammar.specs.declared.op.Op.TheVariants.{Vbr};
 ghost use Rattle.bit_grammar.specs.FormatDefinition.{HasLawfulValue};
+ghost use Rattle.bit_fields.specs.Placed.{AreTopsBehind};
 ghost use Rattle.bit_abbrev.specs.Plans.{Covers, TakesBits};
 
 use crate::plan::{MOST, Pass, Passes};
-use bit_fields::{ChunkTops, ChunkWidth};
+use bit_fields::{ChunkWidth, tops_behind};
 use bit_grammar::Op;
 
 /// How many numbers a pass has at most.
@@ -62,7 +64,7 @@ impl Passes {
         self.pass[at] = Pass {
             skip: last.skip,
             count: last.count + 1,
-            width,
+            width: last.width,
         };
         true
     }
@@ -90,11 +92,21 @@ impl Passes {
         true
     }
 
-    /// The top bits of the first pass's numbers in a load of what it skips and them.
+    /// The top bits of the first pass's chunks in a load that begins with what the pass skips.
     #[inline(always)]
     pub(super) fn tops(&self) -> u64
+        ensures { ForSome (slice_get self.now.pass 0) (λ first. AreTopsBehind first.width first.skip result) }
     {
-        ChunkTops::of(ChunkWidth::of(self.pass[0].width)).behind(self.pass[0].skip)
+        let first = &self.pass[0];
+        tops_behind(ChunkWidth::of(first.width), first.skip)
+    }
+
+    /// Whether there is one pass.
+    #[inline(always)]
+    pub(super) fn is_one(&self) -> bool
+        ensures { result ≡ true → self.now.count ≡ 1 }
+    {
+        self.count == 1
     }
 
     /// Adds an operand, if it fits.

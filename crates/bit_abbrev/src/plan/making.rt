@@ -3,9 +3,10 @@
 ghost use Rattle.std.specs.Prelude.{◌≡◌, ◌≤◌, List, [], take, length};
 ghost use Rattle.std.specs.List.{AllByRecursion};
 ghost use Rattle.bit_grammar.specs.FormatDefinition.{HasLawfulValue};
-ghost use Rattle.bit_abbrev.specs.declared.plan.Rest.TheVariants.{Odd};
+ghost use Rattle.bit_abbrev.specs.declared.plan.Rest.TheVariants.{Numbers, Odd};
 ghost use Rattle.bit_abbrev.specs.Plans.{Covers, HasRest, IsPlan};
 
+use crate::abbrev::Abbrev;
 use crate::plan::{Passes, Plan, Rest};
 use bit_grammar::Op;
 
@@ -24,72 +25,67 @@ fn take_front(passes: &mut Passes, ops: &[Op]) -> usize
     ops.len()
 }
 
+/// What comes after the single operands, and the bits of an array's element.
+fn rest_of(tail: &[Op]) -> (Rest, u8)
+    requires lawful { AllByRecursion HasLawfulValue tail.now }
+    ensures rest { HasRest result.1 result.0 tail.now }
+    ensures least { result.0 ≡ Numbers → 2 ≤ result.1 }
+    ensures most { result.0 ≡ Numbers → result.1 ≤ 32 }
+{
+    match tail {
+        [] => (Rest::Nothing, 0),
+        [Op::Array, Op::Vbr(6)] => (Rest::Sixes, 0),
+        [Op::Array, Op::Char6] => (Rest::Fields, 6),
+        [Op::Array, Op::Fixed(width)] if *width > 0 => (Rest::Fields, *width),
+        [Op::Array, Op::Vbr(width)] if *width > 1 => (Rest::Numbers, *width),
+        _ => (Rest::Odd, 0),
+    }
+}
+
 impl Plan {
     /// A plan that passes over nothing.
     pub(crate) fn odd() -> Plan
-        ensures rest { result.rest ≡ Odd }
-        ensures none { Covers [] result.passes }
+        ensures { result.rest ≡ Odd }
     {
+        let passes = Passes::new();
         Plan {
+            code: 0,
+            tops: passes.tops(),
+            passes,
             rest: Rest::Odd,
+            alone: false,
             width: 0,
             singles: 0,
-            code: 0,
-            tops: 0,
-            passes: Passes::new(),
-        }
-    }
-
-    /// Sets what comes after the single operands.
-    fn set_rest(&mut self, tail: &[Op])
-        requires odd { self.old.rest ≡ Odd }
-        requires lawful { AllByRecursion HasLawfulValue tail.now }
-        ensures rest { HasRest self.new self.new.rest tail.now }
-        ensures code { self.new.code ≡ self.old.code }
-        ensures singles { self.new.singles ≡ self.old.singles }
-        ensures passes { self.new.passes ≡ self.old.passes }
-    {
-        match tail {
-            [] => self.rest = Rest::Nothing,
-            [Op::Array, Op::Vbr(6)] => self.rest = Rest::Sixes,
-            [Op::Array, Op::Char6] => {
-                self.rest = Rest::Fields;
-                self.width = 6;
-            }
-            [Op::Array, Op::Fixed(width)] if *width > 0 => {
-                self.rest = Rest::Fields;
-                self.width = *width;
-            }
-            [Op::Array, Op::Vbr(width)] if *width > 1 => {
-                self.rest = Rest::Numbers;
-                self.width = *width;
-            }
-            _ => {}
         }
     }
 
     /// The plan of a definition.
-    pub(crate) fn of(ops: &[Op], usable: bool) -> Plan
-        ensures { IsPlan ops.now result }
+    pub(crate) fn of(abbrev: &Abbrev) -> Plan
+        ensures { IsPlan «abbrev».now result }
     {
-        let mut plan = Plan::odd();
-        let [first, others @ ..] = ops else {
-            return plan;
+        let [first, others @ ..] = abbrev.ops() else {
+            return Plan::odd();
         };
         let Op::Literal(code) = *first else {
-            return plan;
+            return Plan::odd();
         };
-        if !usable {
-            return plan;
+        if !abbrev.is_usable() {
+            return Plan::odd();
         }
-        let count = take_front(&mut plan.passes, others);
+        let mut passes = Passes::new();
+        let count = take_front(&mut passes, others);
         if count > 64 {
-            return plan;
+            return Plan::odd();
         }
-        plan.code = code;
-        plan.tops = plan.passes.tops();
-        plan.singles = count as u8;
-        plan.set_rest(&others[count..]);
-        plan
+        let (rest, width) = rest_of(&others[count..]);
+        Plan {
+            code,
+            tops: passes.tops(),
+            passes,
+            rest,
+            alone: rest == Rest::Nothing && passes.is_one(),
+            width,
+            singles: count as u8,
+        }
     }
 }

@@ -1,86 +1,154 @@
 //! Passing over a record.
 
-ghost use Rattle.std.specs.Prelude.{◌≡◌, ◌≢◌, ◌⊎◌, ◌+◌, ◌-◌, ◌*◌, ◌^◌, ◌<◌, ◌≤◌, ℕ, List, length, take, IfSome};
+ghost use Rattle.std.specs.Prelude.{◌≡◌, ◌≢◌, ◌⊎◌, ◌+◌, ◌-◌, ◌*◌, ◌^◌, ◌<◌, ◌≤◌, ℕ, List, length, slice_get, take, IfSome};
+ghost use Rattle.std.specs.Option.{ForSome};
 ghost use Rattle.bit_grammar.specs.declared.op.Op.{Op};
 ghost use Rattle.bit_grammar.specs.Fields.{vbr};
 ghost use Rattle.bit_grammar.specs.Blocks.{by_definition};
 ghost use Rattle.bit_grammar.specs.Record.{unabbreviated};
 ghost use Rattle.bit_fields.specs.Buffered.{Reads, beyond};
-ghost use Rattle.bit_fields.specs.Placed.{HasNumbers};
+ghost use Rattle.bit_fields.specs.Placed.{AreTopsBehind, HasNumbers, bits_at};
 ghost use Rattle.bit_fields.specs.PlacedView.{loaded, placed};
-ghost use Rattle.bit_abbrev.specs.declared.plan.Rest.TheVariants.{Nothing, Odd};
+ghost use Rattle.bit_abbrev.specs.declared.plan.Rest.TheVariants.{Nothing, Numbers, Odd};
 ghost use Rattle.bit_abbrev.specs.Plans.{HasArray, HasPasses, HasRest, IsPlan, PassesOver};
 
 use crate::plan::{MARGIN, Pass, Passed, Passes, Plan, Rest};
 use bit_fields::{ChunkTops, ChunkWidth, LoadedBits, PlacedBits};
 
 impl Pass {
-    /// The bits behind the skipped bits and the numbers, with which these begin.
+    /// The chunks of the numbers.
     #[inline(always)]
-    fn behind<'a>(&self, bits: LoadedBits<'a>) -> Option<LoadedBits<'a>>
+    fn chunks(&self) -> ChunkTops
+        ensures { result.bits ≡ self.now.width }
     {
-        let chunks = ChunkTops::of(ChunkWidth::of(self.width));
-        let count = u32::from(self.count);
-        if self.skip < 64 {
-            let numbers = bits.after(u32::from(self.skip));
-            if let Some(len) = numbers.few(chunks, count) {
-                return Some(numbers.after(len as u32));
-            }
-        }
-        let numbers = bits.bits().after(u64::from(self.skip)).load();
-        if let Some(len) = numbers.few(chunks, count) {
-            return Some(numbers.after(len as u32));
-        }
-        let len = numbers.bits().all_of(chunks, u64::from(count), MARGIN)?;
-        Some(numbers.bits().after(len).load())
+        ChunkTops::of(ChunkWidth::of(self.width))
     }
 
     /// The length of the first bits, the skipped bits and the numbers, if the numbers are loaded.
     #[inline(always)]
     fn near(&self, fields: LoadedBits<'_>, first: u64) -> Option<u64>
+        requires there { first + 255 ≤ length (loaded fields).bits }
+        ensures has { IfSome result (λ len. (more : ℕ) × (len ≡ first + self.now.skip + more)
+            × HasNumbers self.now.width self.now.count
+            (beyond (loaded fields.entry) (first + self.now.skip)) more) }
+        ensures few { IfSome result (λ len. len ≤ first + 312) }
     {
         let from = first + u64::from(self.skip);
         if from >= 64 {
             return None;
         }
         let numbers = fields.after(from as u32);
-        let chunks = ChunkTops::of(ChunkWidth::of(self.width));
-        Some(from + numbers.few(chunks, u32::from(self.count))?)
+        Some(from + numbers.few(self.chunks(), u32::from(self.count))?)
+    }
+
+    /// The bits behind the skipped bits and the numbers, with which the first bits begin.
+    #[inline(always)]
+    fn behind<'a>(&self, bits: LoadedBits<'a>) -> Option<LoadedBits<'a>>
+        requires there { 319 ≤ length (loaded bits).bits }
+        ensures has { IfSome result (λ next. (first : ℕ)
+            × (loaded next ≡ beyond (loaded bits.entry) (self.now.skip + first))
+            × HasNumbers self.now.width self.now.count (beyond (loaded bits.entry) self.now.skip) first) }
+        ensures left { IfSome result (λ next. (length (loaded bits.entry).bits ≤ length (loaded next).bits + 312)
+            ⊎ (2240 ≤ length (loaded next).bits)) }
+    {
+        if self.skip < 64 {
+            let numbers = bits.after(u32::from(self.skip));
+            if let Some(len) = numbers.few(self.chunks(), u32::from(self.count)) {
+                return Some(numbers.after(len as u32));
+            }
+        }
+        self.far_behind(bits.bits())
+    }
+
+    /// The same if they are not in the load.
+    #[inline(always)]
+    fn far_behind<'a>(&self, bits: PlacedBits<'a>) -> Option<LoadedBits<'a>>
+        requires there { 319 ≤ length (placed bits).bits }
+        ensures has { IfSome result (λ next. (first : ℕ)
+            × (loaded next ≡ beyond (placed bits.entry) (self.now.skip + first))
+            × HasNumbers self.now.width self.now.count (beyond (placed bits.entry) self.now.skip) first) }
+        ensures left { IfSome result (λ next. (length (placed bits.entry).bits ≤ length (loaded next).bits + 312)
+            ⊎ (2240 ≤ length (loaded next).bits)) }
+    {
+        let numbers = bits.after(u64::from(self.skip)).load();
+        if let Some(len) = numbers.few(self.chunks(), u32::from(self.count)) {
+            return Some(numbers.after(len as u32));
+        }
+        let count = u64::from(self.count);
+        let len = numbers.bits().all_of(self.chunks(), count, MARGIN)?;
+        Some(numbers.bits().after(len).load())
     }
 }
 
+/// The length of what at most six passes go over, from a place of bytes on.
+#[inline(never)]
+fn passes_len(bytes: &[u8], start: u64, at: u64, passes: &[Pass]) -> Option<u64>
+    requires there { at ≤ 8 * length bytes.now }
+    requires fits { start + 8 * length bytes.now < 2 ^ 64 }
+    requires few { length passes.now ≤ 6 }
+    requires left { 336 + 312 * length passes.now ≤ length (bits_at start at bytes.now).bits }
+    ensures has { IfSome result (λ len. HasPasses passes.now (bits_at start at bytes.now) len) }
+    ensures left { IfSome result (λ len. len + 336 ≤ length (bits_at start at bytes.now).bits) }
+{
+    let bits = PlacedBits::of(bytes, start, at);
+    let mut load = bits.load();
+    let mut next = 0;
+    while next < passes.len() {
+        load = passes[next].behind(load)?;
+        next += 1;
+    }
+    Some(load.position() - bits.position())
+}
+
 impl Passes {
-    /// The length of what the passes go over.
+    /// The length of what the passes go over, and of the bits after it.
     #[inline(always)]
     fn len(&self, fields: LoadedBits<'_>, tops: u64) -> Option<u64>
-        requires { 2208 ≤ length (loaded fields).bits }
+        requires there { 2208 ≤ length (loaded fields).bits }
+        requires tops { ForSome (slice_get self.now.pass 0) (λ first. AreTopsBehind first.width first.skip tops) }
+        ensures has { IfSome result (λ len. (passed : ℕ) × (len ≡ passed + self.now.after)
+            × HasPasses (take self.now.count self.now.pass) (loaded fields.entry) passed) }
+        ensures left { IfSome result (λ len. len + 64 ≤ length (loaded fields.entry).bits) }
     {
+        let after = u64::from(self.after);
         if self.count == 0 {
-            return Some(u64::from(self.after));
+            return Some(after);
         }
-        let (bytes, at) = fields.bits().place();
-        match fields.few_behind(tops, u32::from(self.pass[0].count)) {
-            Some(len) if self.count == 1 => Some(u64::from(self.after) + len),
+        match self.first_len(fields, tops) {
+            Some(len) if self.count == 1 => Some(after + len),
             Some(len) => match self.pass[1].near(fields, len) {
-                Some(len) if self.count == 2 => Some(u64::from(self.after) + len),
-                Some(len) => self.more_len(bytes, at, len, 2),
-                None => self.more_len(bytes, at, len, 1),
+                Some(len) if self.count == 2 => Some(after + len),
+                Some(len) => self.more_len(fields, len, 2),
+                None => self.more_len(fields, len, 1),
             },
-            None => self.more_len(bytes, at, 0, 0),
+            None => self.more_len(fields, 0, 0),
         }
     }
 
-    /// The same, if `done` passes go over `first` bits.
-    #[inline(never)]
-    fn more_len(&self, bytes: &[u8], at: u64, first: u64, done: usize) -> Option<u64>
+    /// The length of what the first pass goes over, if it is loaded.
+    #[inline(always)]
+    fn first_len(&self, fields: LoadedBits<'_>, tops: u64) -> Option<u64>
+        requires tops { ForSome (slice_get self.now.pass 0) (λ first. AreTopsBehind first.width first.skip tops) }
+        ensures has { IfSome result (λ len. HasPasses (take 1 self.now.pass) (loaded fields.entry) len) }
+        ensures few { IfSome result (λ len. len ≤ 64) }
     {
-        let mut load = PlacedBits::of(bytes, 0, at + first).load();
-        let mut next = done;
-        while next < self.count as usize {
-            load = self.pass[next].behind(load)?;
-            next += 1;
-        }
-        Some(load.position() - at + u64::from(self.after))
+        let first = &self.pass[0];
+        fields.few_behind(tops, first.skip, first.width, u32::from(first.count))
+    }
+
+    /// The length of what the passes go over, and of the bits after it, if `done` of them go over `first` bits.
+    #[inline(always)]
+    fn more_len(&self, fields: LoadedBits<'_>, first: u64, done: usize) -> Option<u64>
+        requires within { done ≤ self.now.count }
+        requires has { HasPasses (take done self.now.pass) (loaded fields) first }
+        requires left { first + 2208 ≤ length (loaded fields).bits + 312 * done }
+        ensures has { IfSome result (λ len. (passed : ℕ) × (len ≡ passed + self.now.after)
+            × HasPasses (take self.now.count self.now.pass) (loaded fields.entry) passed) }
+        ensures left { IfSome result (λ len. len + 64 ≤ length (loaded fields.entry).bits) }
+    {
+        let (bytes, start, at) = fields.bits().after(first).parts();
+        let more = passes_len(bytes, start, at, &self.pass[done..self.count as usize])?;
+        Some(first + more + u64::from(self.after))
     }
 }
 
@@ -105,6 +173,15 @@ fn sixes_len(first: LoadedBits<'_>, numbers: LoadedBits<'_>, count: u64, before:
 }
 
 impl Plan {
+    /// The chunks of an array's elements.
+    #[inline(always)]
+    fn chunks(&self) -> ChunkTops
+        requires { self.now.rest ≡ Numbers }
+        ensures { result.bits ≡ self.now.width }
+    {
+        ChunkTops::of(ChunkWidth::of(self.width))
+    }
+
     /// The length of the elements of an array and of their number, with which the first bits begin.
     #[inline(always)]
     fn elements_len(
@@ -117,14 +194,14 @@ impl Plan {
         requires planned { self.now.rest ≢ Odd }
         requires reads { Reads (vbr 6) (loaded first) count (loaded elements) }
         requires short { (loaded elements).position ≤ (loaded first).position + 18 }
-        ensures has { IfSome result (λ len. (tail : List Op) → HasRest self.now self.now.rest tail
+        ensures has { IfSome result (λ len. (tail : List Op) → HasRest self.now.width self.now.rest tail
             → HasArray tail count (loaded first.entry) len) }
         ensures within { IfSome result (λ len. len ≤ length (loaded first.entry).bits) }
     {
         let before = elements.position() - first.position();
         match self.rest {
             Rest::Sixes => sixes_len(first, elements, count, 1),
-            Rest::Numbers => Some(before + elements.bits().all_of(ChunkTops::of(ChunkWidth::of(self.width)), count, 0)?),
+            Rest::Numbers => Some(before + elements.bits().all_of(self.chunks(), count, 0)?),
             _ => {
                 let len = count * u64::from(self.width);
                 if !elements.bits().has(len) {
@@ -142,7 +219,7 @@ impl Plan {
         requires planned { self.now.rest ≢ Odd }
         requires there { 64 ≤ length (placed bits).bits }
         ensures has { IfSome result (λ found. (tail : List Op)
-            → HasRest self.now self.now.rest tail
+            → HasRest self.now.width self.now.rest tail
             → HasArray tail found.1 (placed bits.entry) found.0) }
         ensures within { IfSome result (λ found. found.0 ≤ length (placed bits.entry).bits) }
         ensures few { IfSome result (λ found. found.1 < 2 ^ 15) }
@@ -155,16 +232,30 @@ impl Plan {
         Some((self.elements_len(first, elements, count)?, count))
     }
 
-    /// Whether it passes over nothing.
-    #[inline(always)]
-    pub fn is_odd(&self) -> bool
-    {
-        self.rest == Rest::Odd
-    }
-
     /// Passes over the fields of a record after its id, which has at most `room` values.
     #[inline(always)]
     pub fn pass(&self, fields: LoadedBits<'_>, room: u64) -> Option<Passed>
+        requires { 2208 ≤ length (loaded fields).bits }
+        ensures passes { IfSome result (λ passed. (first : ℕ) (ops : List Op) → IsPlan ops self.now
+            → passed.count ≤ room → PassesOver (by_definition first room ops) (loaded fields.entry)
+            passed) }
+        ensures within { IfSome result (λ passed. passed.len ≤ length (loaded fields.entry).bits) }
+    {
+        if self.alone {
+            if let Some(len) = self.passes.first_len(fields, self.tops) {
+                return Some(Passed {
+                    len: u64::from(self.passes.after) + len,
+                    code: self.code,
+                    count: u64::from(self.singles),
+                });
+            }
+        }
+        self.pass_any(fields, room)
+    }
+
+    /// The same by any plan.
+    #[inline(always)]
+    fn pass_any(&self, fields: LoadedBits<'_>, room: u64) -> Option<Passed>
         requires { 2208 ≤ length (loaded fields).bits }
         ensures passes { IfSome result (λ passed. (first : ℕ) (ops : List Op) → IsPlan ops self.now
             → passed.count ≤ room → PassesOver (by_definition first room ops) (loaded fields.entry)

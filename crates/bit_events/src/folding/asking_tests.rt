@@ -98,7 +98,7 @@ fn fold_by_records<S: Source, G: Gatherer>(
     };
     let mut folding = Folding {
         reader,
-        machine: Machine::new(alloc),
+        machine: Machine::new(alloc, false),
         gatherer,
     };
     let done = folding.gather_by_records(alloc, &limits);

@@ -45,13 +45,6 @@ impl<'a> PlacedBits<'a> {
         self.start + self.at
     }
 
-    /// The bytes, and where in them the first bit is.
-    #[inline(always)]
-    pub fn place(self) -> (&'a [u8], u64)
-    {
-        (self.bytes, self.at)
-    }
-
     /// Whether n bits are there.
     #[inline(always)]
     pub fn has(self, n: u64) -> bool

@@ -1,9 +1,9 @@
 //! What a load of placed bits has.
 
-ghost use Rattle.std.specs.Prelude.{◌≡◌, ◌+◌, ◌<◌, ◌≤◌, length, IfSome};
+ghost use Rattle.std.specs.Prelude.{◌≡◌, ℕ, ◌+◌, ◌<◌, ◌≤◌, length, IfSome};
 ghost use Rattle.bit_grammar.specs.Fields.{vbr};
 ghost use Rattle.bit_fields.specs.Buffered.{Reads, beyond};
-ghost use Rattle.bit_fields.specs.Placed.{HasNumbers};
+ghost use Rattle.bit_fields.specs.Placed.{AreTopsBehind, HasNumbers};
 ghost use Rattle.bit_fields.specs.PlacedView.{loaded, placed};
 
 use crate::placed::{ChunkTops, LoadedBits, PlacedBits};
@@ -70,11 +70,19 @@ impl<'a> LoadedBits<'a> {
         Some(u64::from(len))
     }
 
-    /// The length of one to four numbers in chunks of any width, and of the bits before them, if they are loaded.
+    /// The length of so many bits and of one to four numbers behind them, in chunks of a width with these top bits, if all of them
+    /// are loaded.
     #[inline(always)]
-    pub fn few_behind(self, tops: u64, count: u32) -> Option<u64>
+    pub fn few_behind(self, tops: u64, _bits: u8, _width: u8, count: u32) -> Option<u64>
         requires some { 0 < count }
         requires few { count ≤ 4 }
+        requires least { 2 ≤ _width }
+        requires most { _width ≤ 32 }
+        requires behind { _bits < 64 }
+        requires tops { AreTopsBehind _width _bits tops }
+        ensures has { IfSome result (λ len. (first : ℕ) × (len ≡ _bits + first)
+            × HasNumbers _width count (beyond (loaded self.entry) _bits) first) }
+        ensures short { IfSome result (λ len. len ≤ 64) }
     {
         let mut ends = self.ends & tops;
         if count > 1 {

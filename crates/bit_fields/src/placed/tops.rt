@@ -1,6 +1,7 @@
 //! The top bits of chunks.
 
-ghost use Rattle.std.specs.Prelude.{◌≡◌};
+ghost use Rattle.std.specs.Prelude.{◌≡◌, ◌<◌};
+ghost use Rattle.bit_fields.specs.Placed.{AreTopsBehind};
 
 use crate::placed::ChunkTops;
 use crate::placed::numbers::TOPS_OF;
@@ -17,11 +18,13 @@ impl ChunkTops {
             bits: width.bits,
         }
     }
+}
 
-    /// Those of a load whose first bits are no chunks.
-    #[inline(always)]
-    pub fn behind(self, bits: u8) -> u64
-    {
-        self.tops << bits
-    }
+/// The top bits of chunks of a width which come behind so many bits of a load.
+#[inline(always)]
+pub fn tops_behind(width: ChunkWidth, bits: u8) -> u64
+    requires { bits < 64 }
+    ensures { AreTopsBehind width.bits bits result }
+{
+    TOPS_OF[width.bits as usize] << bits
 }

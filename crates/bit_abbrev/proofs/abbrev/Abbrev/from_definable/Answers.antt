@@ -13,4 +13,4 @@ invariant_of-result c =
     let usable = rw c.as_slice.ensures at c.has_shape-usable.ensures in
     let tail = rw c.as_slice-2.ensures at c.tail_of-tail.ensures in
     let layout = rw c.as_slice-3.ensures at c.layout_of-layout.ensures in
-    (c.requires, usable, λ yes. tail (lawful_of c.args.ops.items c.requires (sym usable ∙ yes)), layout)
+    (c.requires, usable, λ yes. tail (lawful_of c.args.ops.items c.requires (sym usable ∙ yes)), layout, λ planned. absurd (planned c.odd.ensures))

@@ -17,4 +17,4 @@ invariant_of-result c =
     let h = of_lawful c.args.ops.items lawful in
     let tail = rw c.as_slice-in-None.ensures at c.tail_of-tail.ensures in
     let layout = rw c.as_slice-in-None-2.ensures at c.layout_of-layout.ensures in
-    (h.0, h.1, λ yes. tail lawful, layout)
+    (h.0, h.1, λ yes. tail lawful, layout, λ planned. absurd (planned c.odd.ensures))

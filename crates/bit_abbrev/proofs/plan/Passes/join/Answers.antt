@@ -20,5 +20,5 @@ returns-clause-adds c = λ made ops covers a len h there.
     let next : suc at ≡ old.count = omega arith in
     let within : at < length old.pass = omega arith in
     let was = ap (λ k. take k old.pass) (sym next) ∙ take-suc old.pass at c.index-self-at.result within in
-    let same : last.chunks.bits ≡ c.args.width = c.if-last-from.false ∙ c.from.ensures in
-    subst (λ (n : ℕ). HasValues (ops ++ Vbr n ∷ []) a (len + old.after)) same (subst (HasValues (ops ++ Vbr last.chunks.bits ∷ []) a) none (covers_longer ops (take at old.pass) _ _ old.after a len (omega arith) refl refl refl (λ x before. covers a x (subst (λ (passes : List Pass). HasPasses passes a x) (sym was) before)) (subst (λ (passes : List Pass). HasPasses passes a len) (last_set old.pass old.count _ next within) h) (omega (arith, there))))
+    let same : last.width ≡ c.args.width = c.if-last-width.false in
+    subst (λ (n : ℕ). HasValues (ops ++ Vbr n ∷ []) a (len + old.after)) same (subst (HasValues (ops ++ Vbr last.width ∷ []) a) none (covers_longer ops (take at old.pass) _ _ old.after a len (omega arith) refl refl refl (λ x before. covers a x (subst (λ (passes : List Pass). HasPasses passes a x) (sym was) before)) (subst (λ (passes : List Pass). HasPasses passes a len) (last_set old.pass old.count _ next within) h) (omega (arith, there))))

@@ -1,27 +1,27 @@
-use Rattle.std.proofs.Common.{◌<◌, length, get_or, ◌∙◌, arith}
+use Rattle.std.proofs.Common.{◌≡◌, ◌+◌, ◌-◌, ◌≤◌, ℕ, length, take, drop, sym, ap, ◌∙◌, subst, arith}
+use Rattle.std.proofs.lemmas.List.{length-drop}
+use Rattle.bit_fields.specs.Buffered.{BufferedBits, beyond}
+use Rattle.bit_fields.specs.Placed.{bits_at}
 use Rattle.bit_fields.specs.PlacedView.{loaded, placed}
 use Rattle.bit_fields.proofs.Placing.{length_at}
-use Rattle.bit_abbrev.proofs.Covering.{passes_on, left_on}
+use Rattle.bit_abbrev.specs.Plans.{HasPasses}
+use Rattle.bit_abbrev.proofs.Covering.{passes_rest}
 use Rattle.bit_abbrev.proofs.plan.Passes.more_len.Goals as goal
 
-pub overflow_add-from : goal.overflow_add-from
-overflow_add-from c = omega (arith, c.loop-at.invariant.left, c.from.ensures, c.args.bits.fits, length_at c.args.bits.at c.args.bits.bytes.now)
-
-pub overflow_add-len : goal.overflow_add-len
-overflow_add-len c =
-    let here = c.load.ensures ∙ c.after.ensures.rest in
-    let left = left_on (placed c.args.bits) (loaded c.load.result) c.loop-at.len c.from.result (get_or c.args.self.now.pass c.loop-at.at c.index-self-at.result).skip c.in_ok-len.field-0 c.loop-at.at here c.loop-at.invariant.left (omega (arith, c.loop-at.invariant.left, c.from.ensures)) (omega (arith, c.from.ensures)) c.from.ensures c.in_ok-len.ensures.left in
-    omega (arith, left, c.args.bits.fits, length_at c.args.bits.at c.args.bits.bytes.now)
-
-pub loop-at-preserved : goal.loop-at-preserved
-loop-at-preserved c =
-    let here = c.load.ensures ∙ c.after.ensures.rest in
-    let within : c.loop-at.at < length c.args.self.now.pass = omega arith in
-    record {
-      within = omega arith;
-      has = passes_on c.args.self.now.pass c.loop-at.at c.index-self-at.result (placed c.args.bits) (loaded c.load.result) c.loop-at.len c.from.result c.in_ok-len.field-0 c.in_ok-len.ensures.has.0 within here c.from.ensures c.loop-at.invariant.has c.in_ok-len.ensures.has.1 c.in_ok-len.ensures.has.2;
-      left = left_on (placed c.args.bits) (loaded c.load.result) c.loop-at.len c.from.result (get_or c.args.self.now.pass c.loop-at.at c.index-self-at.result).skip c.in_ok-len.field-0 c.loop-at.at here c.loop-at.invariant.left (omega (arith, c.loop-at.invariant.left, c.from.ensures)) (omega (arith, c.from.ensures)) c.from.ensures c.in_ok-len.ensures.left;
-    }
-
 pub overflow_add-result : goal.overflow_add-result
-overflow_add-result c = omega (arith, c.loop-at.invariant.left, c.from-2.ensures, c.args.bits.fits, length_at c.args.bits.at c.args.bits.bytes.now)
+overflow_add-result c =
+    let here = sym c.parts-start.ensures.bits ∙ c.after.ensures.rest ∙ ap (λ b. beyond b c.args.first) c.bits.ensures in
+    let left = subst (λ (b : BufferedBits). c.in_ok-more.more + 336 ≤ length b.bits) here c.in_ok-more.ensures.left in
+    omega (arith, left, length-drop c.args.first (loaded c.args.fields).bits, c.args.fields.bits.fits, length_at c.args.fields.bits.at c.args.fields.bits.bytes.now)
+
+pub overflow_add-result-2 : goal.overflow_add-result-2
+overflow_add-result-2 c =
+    let here = sym c.parts-start.ensures.bits ∙ c.after.ensures.rest ∙ ap (λ b. beyond b c.args.first) c.bits.ensures in
+    let left = subst (λ (b : BufferedBits). c.in_ok-more.more + 336 ≤ length b.bits) here c.in_ok-more.ensures.left in
+    omega (arith, left, c.from.ensures, length-drop c.args.first (loaded c.args.fields).bits, c.args.fields.bits.fits, length_at c.args.fields.bits.at c.args.fields.bits.bytes.now)
+
+pub returns-clause-has : goal.returns-clause-has
+returns-clause-has c =
+    let here = sym c.parts-start.ensures.bits ∙ c.after.ensures.rest ∙ ap (λ b. beyond b c.args.first) c.bits.ensures in
+    let passes = c.args.self.now.pass in
+    (c.args.first + c.in_ok-more.more, omega (arith, c.from.ensures), passes_rest passes c.args.done c.args.self.now.count (loaded c.args.fields) c.args.first c.in_ok-more.more c.requires.within c.requires.has (subst (λ (b : BufferedBits). HasPasses (take (c.args.self.now.count - c.args.done) (drop c.args.done passes)) b c.in_ok-more.more) here c.in_ok-more.ensures.has))

@@ -1,38 +1,18 @@
-use Rattle.std.proofs.Common.{◌≡◌, ◌+◌, ◌≤◌, length, sym, ap, ◌∙◌, subst, arith, rules}
-use Rattle.std.proofs.lemmas.List.{length-drop}
-use Rattle.bit_fields.specs.Buffered.{BufferedBits, beyond}
+use Rattle.std.proofs.Common.{◌≡◌, ◌+◌, ◌≤◌, ℕ, length, take, sym, ◌∙◌, subst, arith, rules}
 use Rattle.bit_fields.specs.PlacedView.{loaded}
-use Rattle.bit_fields.proofs.Placing.{length_at}
-use Rattle.bit_abbrev.specs.Plans.{HasArray, HasRest}
+use Rattle.bit_abbrev.specs.Plans.{HasPasses, HasRest}
 use Rattle.bit_abbrev.specs.declared.plan.Rest.{Rest}
 use Rattle.bit_abbrev.specs.declared.plan.Rest.TheVariants.{Nothing, Odd}
-use Rattle.bit_abbrev.proofs.PassedRecords.{covered, shaped, singles_passed, array_passed}
+use Rattle.bit_abbrev.proofs.PassedRecords.{covered, not_odd, shaped, singles_passed}
 use Rattle.bit_abbrev.proofs.plan.Plan.pass.Goals as goal
 
-pub returns-then-eq-2-clause-passes : goal.returns-then-eq-2-clause-passes
-returns-then-eq-2-clause-passes c = λ first ops is few.
-    let planned : c.args.self.now.rest ≡ Odd → ⊥ = search rules in
-    let nothing : c.args.self.now.rest ≡ Nothing = search rules in
-    let p = is planned in
-    let values = covered p.others c.args.self.now.passes (loaded c.args.fields) c.in_ok-len.len p.covers c.in_ok-len.ensures.has (omega (arith, c.in_ok-len.ensures.left)) in
-    shaped first c.args.room ops c.args.self.now.code c.from-count.result c.in_ok-len.len (loaded c.args.fields) p.shape
-    (singles_passed first c.args.room c.args.self.now.code c.from-count.result c.in_ok-len.len ops p.others p.tail (loaded c.args.fields) p.all (subst (λ (r : Rest). HasRest c.args.self.now r p.tail) nothing p.rest) (p.count ∙ sym c.from-count.ensures) few values)
-
-pub overflow_add-result : goal.overflow_add-result
-overflow_add-result c =
-    let here = c.after.ensures.rest ∙ ap (λ a. beyond a c.in_ok-len.len) c.bits.ensures in
-    let more = subst (λ (b : BufferedBits). c.in_ok-more.more ≤ length b.bits) here c.in_ok-more.ensures.within in
-    omega (arith, more, c.in_ok-len.ensures.left, length-drop c.in_ok-len.len (loaded c.args.fields).bits, c.args.fields.bits.fits, length_at c.args.fields.bits.at c.args.fields.bits.bytes.now)
-
-pub overflow_add-result-2 : goal.overflow_add-result-2
-overflow_add-result-2 c = omega (arith, c.in_ok-more.ensures.few, c.from-count.ensures)
-
-pub returns-clause-passes : goal.returns-clause-passes
-returns-clause-passes c = λ first ops is few.
-    let planned : c.args.self.now.rest ≡ Odd → ⊥ = search rules in
-    let p = is planned in
-    let values = covered p.others c.args.self.now.passes (loaded c.args.fields) c.in_ok-len.len p.covers c.in_ok-len.ensures.has (omega (arith, c.in_ok-len.ensures.left)) in
-    let here = c.after.ensures.rest ∙ ap (λ a. beyond a c.in_ok-len.len) c.bits.ensures in
-    let array = subst (λ (b : BufferedBits). HasArray p.tail c.in_ok-more.elements b c.in_ok-more.more) here (c.in_ok-more.ensures.has p.tail p.rest) in
-    shaped first c.args.room ops c.args.self.now.code (c.from-count.result + c.in_ok-more.elements) (c.in_ok-len.len + c.in_ok-more.more) (loaded c.args.fields) p.shape
-    (array_passed first c.args.room c.args.self.now.code c.from-count.result c.in_ok-more.elements c.in_ok-more.more c.in_ok-len.len ops p.others p.tail (loaded c.args.fields) p.all (p.count ∙ sym c.from-count.ensures) few values array)
+pub returns-in-Some-clause-passes : goal.returns-in-Some-clause-passes
+returns-in-Some-clause-passes c = λ first ops is few.
+    let plan = c.args.self.now in
+    let known = plan.one c.if-self.true in
+    let p = is (not_odd plan.rest known.0) in
+    let len = c.from.result + c.in-Some.len in
+    let one = subst (λ (n : ℕ). HasPasses (take n plan.passes.pass) (loaded c.args.fields) c.in-Some.len) (sym known.1) c.in-Some.ensures.has in
+    let values = covered p.others plan.passes (loaded c.args.fields) len p.covers (c.in-Some.len, omega (arith, c.from.ensures), one) (omega (arith, c.from.ensures, c.in-Some.ensures.few, c.requires)) in
+    shaped first c.args.room ops plan.code c.from-in-Some.result len (loaded c.args.fields) p.shape
+    (singles_passed first c.args.room plan.code c.from-in-Some.result len ops p.others p.tail (loaded c.args.fields) p.all (subst (λ (r : Rest). HasRest plan.width r p.tail) known.0 p.rest) (p.count ∙ sym c.from-in-Some.ensures) few values)
