@@ -20,7 +20,6 @@ use Rattle.bit_fields.specs.Placed.{HasNumbers}
 use Rattle.bit_fields.proofs.BufferedReads.{reads_forward, reads_there, reads_passed}
 use Rattle.bit_fields.proofs.Placing.{has_one, has_both}
 use Rattle.bit_abbrev.specs.declared.plan.Passes.{Passes}
-use Rattle.bit_abbrev.specs.declared.plan.Plan.{Plan}
 use Rattle.bit_abbrev.specs.declared.plan.Rest.{Rest}
 use Rattle.bit_abbrev.specs.declared.plan.Rest.TheVariants as rest
 use Rattle.bit_abbrev.specs.Scalars.{Elements}

@@ -10,13 +10,13 @@ ghost use Rattle.bit_abbrev.specs.HeldLists.{all_of};
 ghost use Rattle.bit_abbrev.specs.InForce.{found_if_any};
 ghost use Rattle.bit_abbrev.specs.Ready.{either, later_list, table_of};
 
+use crate::Abbrev;
 use crate::builder::InfoBuilder;
 use crate::finished::FinishedInfo;
 use crate::found::Found;
 use crate::from_table::FromTable;
 use crate::held::HeldList;
 use crate::ready::{Room, add_later, in_order, last_later, place_of, read_later};
-use crate::Abbrev;
 use bit_fields::{BitReader, Fault, Shapes, Source};
 use std::alloc::{AllocError, Global};
 use std::boxed::Box;

@@ -1,8 +1,7 @@
-use Rattle.std.proofs.Common.{◌≡◌, ◌+◌, ◌-◌, ◌≤◌, ℕ, length, take, drop, sym, ap, ◌∙◌, subst, arith}
+use Rattle.std.proofs.Common.{◌+◌, ◌-◌, ◌≤◌, length, take, drop, sym, ap, ◌∙◌, subst, arith}
 use Rattle.std.proofs.lemmas.List.{length-drop}
 use Rattle.bit_fields.specs.Buffered.{BufferedBits, beyond}
-use Rattle.bit_fields.specs.Placed.{bits_at}
-use Rattle.bit_fields.specs.PlacedView.{loaded, placed}
+use Rattle.bit_fields.specs.PlacedView.{loaded}
 use Rattle.bit_fields.proofs.Placing.{length_at}
 use Rattle.bit_abbrev.specs.Plans.{HasPasses}
 use Rattle.bit_abbrev.proofs.Covering.{passes_rest}

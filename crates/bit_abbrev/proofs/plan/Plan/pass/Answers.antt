@@ -1,8 +1,7 @@
-use Rattle.std.proofs.Common.{◌≡◌, ◌+◌, ◌≤◌, ℕ, length, take, sym, ◌∙◌, subst, arith, rules}
+use Rattle.std.proofs.Common.{◌+◌, ℕ, take, sym, ◌∙◌, subst, arith}
 use Rattle.bit_fields.specs.PlacedView.{loaded}
 use Rattle.bit_abbrev.specs.Plans.{HasPasses, HasRest}
 use Rattle.bit_abbrev.specs.declared.plan.Rest.{Rest}
-use Rattle.bit_abbrev.specs.declared.plan.Rest.TheVariants.{Nothing, Odd}
 use Rattle.bit_abbrev.proofs.PassedRecords.{covered, not_odd, shaped, singles_passed}
 use Rattle.bit_abbrev.proofs.plan.Plan.pass.Goals as goal
 

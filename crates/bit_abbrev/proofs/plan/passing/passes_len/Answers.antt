@@ -1,4 +1,4 @@
-use Rattle.std.proofs.Common.{◌≡◌, ◌+◌, ◌-◌, ◌<◌, ℕ, length, take, get_or, refl, sym, ap, ◌∙◌, subst, arith}
+use Rattle.std.proofs.Common.{◌≡◌, ◌+◌, ◌-◌, ◌<◌, ℕ, length, take, get_or, ap, ◌∙◌, subst, arith}
 use Rattle.bit_fields.specs.Buffered.{BufferedBits, beyond}
 use Rattle.bit_fields.specs.Placed.{HasNumbers, bits_at}
 use Rattle.bit_fields.specs.PlacedView.{loaded}
