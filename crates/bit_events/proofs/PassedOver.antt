@@ -14,7 +14,7 @@ use Rattle.bit_fields.specs.Buffered.{BufferedBits, Reads, beyond, reader_at}
 use Rattle.bit_fields.proofs.BufferedReads.{took_reads}
 use Rattle.bit_abbrev.specs.declared.plan.Passed.{Passed}
 use Rattle.bit_abbrev.specs.declared.plan.Plan.{Plan}
-use Rattle.bit_abbrev.specs.Plans.{ArePlans, IsPlan, PassesOver}
+use Rattle.bit_abbrev.specs.Plans.{IsPlan, PassesOver}
 use Rattle.bit_abbrev.proofs.Buffered.{took_at}
 use Rattle.bit_events.specs.declared.passing.CountedRecord.{CountedRecord}
 use Rattle.bit_events.specs.declared.passing.PassedRun.{PassedRun}
@@ -61,11 +61,10 @@ pub plain_passes : (result : Option Passed) (knows : List (List Op) → Type 0) 
 plain_passes None knows id room fields a is plain h = tt
 plain_passes (Some passed) knows id room fields a is plain h = λ first definitions known few. plain_over room first id definitions a passed plain (subst (λ (x : BufferedBits). PassesOver (unabbreviated room) x passed) is (h room few))
 
-pub planned_passes : (result : Option Passed) (plans : List Plan) (plan : Plan) (id room : ℕ) (fields a : BufferedBits) → fields ≡ a → id ≢ 3 → slice_get plans (id - 4) ≡ Some plan → IfSome result (PassesPlanned plan room fields) → IfSome result (PassesEntry (λ d. ArePlans d plans) id room a)
-planned_passes None plans plan id room fields a is other found h = tt
-planned_passes (Some passed) plans plan id room fields a is other found h = λ first definitions are few.
-    let d = are (id - 4) plan found in
-    found_over room first id definitions d.0 a passed other d.1 (subst (λ (x : BufferedBits). PassesOver (by_definition first room d.0) x passed) is (h first d.0 d.2 few))
+pub planned_passes : (result : Option Passed) (all : List (List Op)) (ops : List Op) (plan : Plan) (id room : ℕ) (fields a : BufferedBits) → fields ≡ a → id ≢ 3 → slice_get all (id - 4) ≡ Some ops → IsPlan ops plan → IfSome result (PassesPlanned plan room fields) → IfSome result (PassesEntry (λ d. all ≡ d) id room a)
+planned_passes None all ops plan id room fields a is other found planned h = tt
+planned_passes (Some passed) all ops plan id room fields a is other found planned h = λ first definitions same few.
+    found_over room first id definitions ops a passed other (ap (λ (d : List (List Op)). slice_get d (id - 4)) (sym same) ∙ found) (subst (λ (x : BufferedBits). PassesOver (by_definition first room ops) x passed) is (h first ops planned few))
 
 -- what the operands of a definition say
 abbrev PassesOperands : List Op → (room : ℕ) → BufferedBits → Passed → Type 0

@@ -108,7 +108,8 @@ impl<'a> PassOne for ByPlans<'a> {
     #[inline(always)]
     fn pass_one(self, bits: PlacedBits<'_>, width: u32, id: u64, room: u64) -> Option<Passed> {
         let fields = bits.load().after(width);
-        self.definitions.get((id - 4) as usize)?.plan().pass(fields, room)
+        let abbrev = self.definitions.get((id - 4) as usize)?;
+        abbrev.plan().pass(fields, room)
     }
 }
 

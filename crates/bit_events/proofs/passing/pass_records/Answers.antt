@@ -7,10 +7,10 @@ use Rattle.bit_events.proofs.passing.pass_records.Goals.{then-not-run+in_ok-run-
 
 pub returns : goal.returns
 returns g c =
-    let first = c.in_ok-run.ensures.passes c.args.definitions.now.all c.requires.plans in
+    let first = c.in_ok-run.ensures.passes c.args.definitions.now.all c.all-all.ensures in
     let whole : PassesOn g.C.RunCounter.counted c.args.width c.args.definitions.now.all c.args.counter.now c.args.room (placed c.args.bits) c.if-not-run.counter c.if-not-run.run.room (placed c.if-not-run.run.bits) =
     elim c.if-not-run.branch [
-      | then-not-run+in_ok-run-2 w ↦ rw (w.counter-is, w.run-is) (on_then g.C.RunCounter.counted c.args.width c.args.definitions.now.all c.args.counter.now c.args.room (placed c.args.bits) _ _ _ _ _ _ first (w.in_ok-run-2.ensures.passes c.args.definitions.now.all w.all-all.ensures))
+      | then-not-run+in_ok-run-2 w ↦ rw (w.counter-is, w.run-is) (on_then g.C.RunCounter.counted c.args.width c.args.definitions.now.all c.args.counter.now c.args.room (placed c.args.bits) _ _ _ _ _ _ first (w.in_ok-run-2.ensures.passes c.args.definitions.now.all c.all-all.ensures))
       | else-not-run w ↦ rw (w.counter-is, w.run-is) first
     ] in
     record {
