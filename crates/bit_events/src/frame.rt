@@ -143,10 +143,20 @@ impl Frame {
             return self.read_held(reader, shapes, count);
         }
         let abbrev = read_ops(alloc, reader, shapes, count)?;
-        let abbrev = if planned { abbrev.planned() } else { abbrev };
-        or_memory_fault(reader, self.put(abbrev))?;
+        or_memory_fault(reader, self.put(planned_if(planned, abbrev)))?;
         Ok(())
     }
+}
+
+/// The definition, with a plan if it is to have one.
+#[inline(always)]
+fn planned_if(planned: bool, abbrev: Abbrev) -> Abbrev
+    ensures { result ≡ abbrev }
+{
+    if planned {
+        return abbrev.planned();
+    }
+    abbrev
 }
 
 /// Reads a definition, after its id, which began at `first`, and returns the bit after it. It is then the newest one, with a plan if

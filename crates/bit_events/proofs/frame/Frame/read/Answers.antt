@@ -12,6 +12,6 @@ returns-in_err-or_memory_fault-clause-reads g c =
 
 pub returns-clause-reads : goal.returns-clause-reads
 returns-clause-reads g c =
-    let made = rw c.in_ok-or_memory_fault.ensures.ok.0 at c.put.ensures.defined in
-    let newest = rw c.in_ok-or_memory_fault.ensures.ok.0 at c.put.ensures.newest in
+    let made = rw c.planned_if.ensures at (rw c.in_ok-or_memory_fault.ensures.ok.0 at c.put.ensures.defined) in
+    let newest = rw c.planned_if.ensures at (rw c.in_ok-or_memory_fault.ensures.ok.0 at c.put.ensures.newest) in
     (c.in_ok-abbrev.abbrev, rw c.in_ok-or_memory_fault.ensures.ok.1 c.in_ok-abbrev.ensures, record { made = made; last = newest })

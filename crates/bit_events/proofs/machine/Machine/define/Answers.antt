@@ -19,7 +19,7 @@ returns-clause-takes g c = λ list f outer split.
 
 pub returns-clause-leaves : goal.returns-clause-leaves
 returns-clause-leaves g c = λ deepest list.
-    let new : Machine = record { frames = with_item c.args.self.now.frames (vec_len c.args.self.now.frames - 1) c.define.new.frame; table = c.args.self.now.table; used = c.args.self.now.used; planning = c.args.self.now.planning; made = c.args.self.now.made } in
+    let new : Machine = record { frames = with_item c.args.self.now.frames (vec_len c.args.self.now.frames - 1) c.define.new.frame; table = c.args.self.now.table; used = c.args.self.now.used; planned = c.args.self.now.planned; made = c.args.self.now.made } in
     let some : IsSome (newest new.frames.items) = rw (newest_set c.args.self.now.frames.items (vec_len c.args.self.now.frames - 1) c.define.new.frame (omega (arith, c.requires.some, c.args.self.now.frames.ok.0))) c.in_ok-after.ensures.newest in
     record {
       stands = c.requires.some;
