@@ -32,6 +32,7 @@ pub mod SixBitForms
 pub mod EndMarks
 pub mod Placing
 pub mod LongSixes
+pub mod SixSteps
 pub mod PlainRecords
 pub mod PlainPlaces
 pub mod PlacedNumbers

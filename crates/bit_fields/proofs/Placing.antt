@@ -169,7 +169,7 @@ placed_new word held first more position bytes more_is le =
 
 -- ---- buffered bits at the place
 
-low_three : (at : ℕ) → bit_and at 7 ≡ at % 8
+pub low_three : (at : ℕ) → bit_and at 7 ≡ at % 8
 low_three at = and_mask at 3
 
 pub part_there : (at : ℕ) (bytes : List ℕ) → at ≤ 8 * length bytes → bit_and at 7 ≤ length (bits_of_bytes (take (length bytes - at / 8) (drop (at / 8) bytes)))
@@ -245,12 +245,19 @@ ends_shown at word bytes there fits is =
     subst (λ (k : ℕ). Shows (bit_not w64 word / 2 ^ k) (drop at (bits_of_bytes bytes))) (sym (low_three at))
     (subst (Shows (bit_not w64 word / 2 ^ (at % 8))) e.rest (shows_after (at % 8) (bit_not w64 word) s (not_small word) (shows_word word s fits e.there e.seen)))
 
+-- the bits from a bit of a byte on
+pub front_from : (place shift word : ℕ) (bytes : List ℕ) → place + 8 ≤ length bytes → shift < 8 → word < 2 ^ 64 → bits_of 64 word ≡ bits_of_bytes (take 8 (take (length bytes - place) (drop place bytes))) → (n : ℕ) → n ≤ 57 → bits_of n (bit_not w64 (bit_not w64 word / 2 ^ shift)) ≡ take n (drop (8 * place + shift) (bits_of_bytes bytes))
+front_from place shift word bytes there low fits is n few =
+    let rest : List ℕ = take (length bytes - place) (drop place bytes) in
+    let some : 8 ≤ length rest = omega (arith, ap length (left_after place bytes), length-drop place bytes, there) in
+    let enough : shift + n ≤ 64 = omega (arith, low, few) in
+    let behind : drop shift (bits_of_bytes rest) ≡ drop (8 * place + shift) (bits_of_bytes bytes) = ap (λ (xs : List ℕ). drop shift (bits_of_bytes xs)) (sym (left_after place bytes)) ∙ ap (drop shift) (bytes_dropped place bytes (omega (arith, there))) ∙ drop_more (8 * place) shift (bits_of_bytes bytes) in
+    front_after shift n (bit_not w64 word) (bits_of_bytes rest) (not_small word) enough (word_front word (bits_of_bytes rest) fits (is ∙ bits_of_bytes-take 8 rest some) (shift + n) enough) ∙ ap (take n) behind
+
 pub ends_front : (at word : ℕ) (bytes : List ℕ) → 64 ≤ length (drop at (bits_of_bytes bytes)) → word < 2 ^ 64 → bits_of 64 word ≡ bits_of_bytes (take 8 (take (length bytes - at / 8) (drop (at / 8) bytes))) → (n : ℕ) → n ≤ 57 → bits_of n (bit_not w64 (bit_not w64 word / 2 ^ bit_and at 7)) ≡ take n (drop at (bits_of_bytes bytes))
 ends_front at word bytes there fits is n few =
-    let s : List Bool = bits_of_bytes (take (length bytes - at / 8) (drop (at / 8) bytes)) in
-    let e = eight_at at word bytes there is in
-    let some : at % 8 + n ≤ 64 = omega (arith, few) in
-    ap (λ (k : ℕ). bits_of n (bit_not w64 (bit_not w64 word / 2 ^ k))) (low_three at) ∙ front_after (at % 8) n (bit_not w64 word) s (not_small word) some (word_front word s fits e.seen (at % 8 + n) some) ∙ ap (take n) e.rest
+    let place : 8 * (at / 8) + at % 8 ≡ at = omega arith in
+    ap (λ (k : ℕ). bits_of n (bit_not w64 (bit_not w64 word / 2 ^ k))) (low_three at) ∙ front_from (at / 8) (at % 8) word bytes (omega (arith, length_at at bytes, there)) (omega arith) fits is n few ∙ ap (λ (k : ℕ). take n (drop k (bits_of_bytes bytes))) place
 
 -- only the first n bits of a word
 pub front_shown : (n word : ℕ) (s : List Bool) → n ≤ 57 → bits_of n word ≡ take n s → bits_of n (bit_and word (1 * 2 ^ n % 2 ^ 64 - 1)) ≡ take n s
