@@ -156,15 +156,6 @@ begun_ends (suc begun) first word opens some ends =
     let later = begun_ends begun first (word / 2 ^ 6) opens.1 some (subst (EndsChunks 5 first) (behind_next word begun) ends) in
     subst (λ (k : ℕ). EndsChunks 5 k word) next (one_more (begun + first) word opens.0 (omega (arith, some)) later)
 
-pub opens_more : (begun more word : ℕ) → Opens begun word → Opens more (word / 2 ^ (6 * begun)) → Opens (begun + more) word
-opens_more zero more word opens later =
-    let same : more ≡ 0 + more = omega arith in
-    let here : word / 2 ^ (6 * 0) ≡ word = omega arith in
-    subst (λ (k : ℕ). Opens k word) same (subst (Opens more) here later)
-opens_more (suc begun) more word opens later =
-    let next : suc (begun + more) ≡ suc begun + more = omega arith in
-    subst (λ (k : ℕ). Opens k word) next (opens.0, opens_more begun more (word / 2 ^ 6) opens.1 (subst (Opens more) (behind_next word begun) later))
-
 before_end : (count word : ℕ) → EndsChunks 5 (suc count) word → Opens count word
 before_end zero word ends = tt
 before_end (suc count) word ends = (ends.0, before_end count (word / 2 ^ 6) ends.1)

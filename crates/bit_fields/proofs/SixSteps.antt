@@ -1,5 +1,5 @@
 -- Numbers in chunks of six bits of loads that are eight chunks apart, wherever numbers end.
-use Rattle.std.proofs.Common.{◌≡◌, ℕ, zero, suc, ◌+◌, ◌*◌, ◌-◌, ◌/◌, ◌%◌, ◌^◌, ◌<◌, ◌≤◌, ◌⊎◌, Bool, eqb, List, [], ◌∷◌, ◌++◌, length, take, drop, Ok, refl, sym, ap, ◌∙◌, subst, arith, bit_and, inl, inr}
+use Rattle.std.proofs.Common.{◌≡◌, ℕ, zero, suc, ◌+◌, ◌*◌, ◌-◌, ◌/◌, ◌%◌, ◌^◌, ◌<◌, ◌≤◌, ◌⊎◌, Bool, eqb, List, ◌++◌, length, take, drop, Ok, refl, sym, ap, ◌∙◌, subst, arith, bit_and, inl, inr}
 use Rattle.std.specs.Int.{w64, bit_not, leading_zeros, trailing_zeros}
 use Rattle.std.specs.Int.Count.{count_leading_zeros, leading_unique, trailing_of_zero}
 use Rattle.std.specs.Int.RustNames.{count_ones}
@@ -16,8 +16,8 @@ use Rattle.bit_fields.specs.SixEnds.{EndsWith, Runs, lasts, tops}
 use Rattle.bit_fields.proofs.BitLaws.{bits_of-number, bits_of-split, drop-bits_of, drop_more, take-bits_of, number-bits_mod}
 use Rattle.bit_fields.proofs.EndMarks.{split_low}
 use Rattle.bit_fields.proofs.Placing.{has_both, has_none, length_at}
-use Rattle.bit_fields.proofs.SixBits.{Opens, ReadsRun, begun_reads, behind_more, length-lasts, opens_more, runs_within}
-use Rattle.bit_fields.proofs.SixBitSums.{Last, bit-eqb_none, bit_most, ended, ended_after, ended_most, last_of, last_place, lowest_is, marked, marked_in, ones_in, six_more}
+use Rattle.bit_fields.proofs.SixBits.{Opens, ReadsRun, begun_reads, length-lasts, runs_within}
+use Rattle.bit_fields.proofs.SixBitSums.{Last, bit-eqb_none, ended, ended_after, ended_most, last_of, last_place, lowest_is, marked, marked_in, ones_in, six_more}
 
 -- ---- chunks that go on
 

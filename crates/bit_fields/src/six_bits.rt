@@ -74,14 +74,14 @@ pub(crate) fn end_of(ends: u64, count: u64) -> Option<u32>
     Some(reached.trailing_zeros() + 1)
 }
 
-/// Whether a number that is open after eight chunks may go on through more than nine: the chunks before, and those that come next, by
-/// the top bits of those where a number ends.
+/// Whether a number may be long that is open behind eight chunks, by the ends of numbers in these and in those that come next: it has
+/// at least ten chunks then. If not, it has at most twelve.
 #[inline(always)]
 pub(crate) fn goes_on(before: u64, ends: u64) -> bool
     ensures { result ≡ false → (bit_and ends (tops 4) ≡ 0 → ⊥)
         ⊎ (leading_zeros w64 before + trailing_zeros w64 (bit_and ends (tops 9)) ≤ 69) }
 {
-    // its chunks before are (leading_zeros - 16) / 6, and the next ones (trailing_zeros + 1) / 6
+    // (leading zeros - 16) / 6 chunks are open, and (trailing zeros + 1) / 6 more go up to the next end
     ends & FOUR_TOPS == 0 && before.leading_zeros() + (ends & TOPS).trailing_zeros() > 69
 }
 

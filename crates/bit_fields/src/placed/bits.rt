@@ -138,11 +138,6 @@ impl<'a> PlacedBits<'a> {
         ensures has { IfSome result (λ len. HasNumbers n 1 (placed self.entry) len) }
         ensures some { IfSome result (λ len. 0 < len) }
     {
-        if n == 6 {
-            if let Some(len) = self.long_six() {
-                return Some(len);
-            }
-        }
         let (_, len) = self.far(n);
         if len == 0 {
             return None;
@@ -175,6 +170,18 @@ impl<'a> PlacedBits<'a> {
             return Some(78);
         }
         None
+    }
+
+    /// The length of a number in chunks of six bits that is long, if it is there.
+    #[inline(always)]
+    fn any_six(self) -> Option<u64>
+        ensures has { IfSome result (λ len. HasNumbers 6 1 (placed self.entry) len) }
+        ensures some { IfSome result (λ len. 0 < len) }
+    {
+        if let Some(len) = self.long_six() {
+            return Some(len);
+        }
+        self.long(6)
     }
 
     /// The length of this many numbers in chunks of six bits, if they are there.
@@ -210,7 +217,7 @@ impl<'a> PlacedBits<'a> {
             if !long.has(64) {
                 return None;
             }
-            at += long.long(6)?;
+            at += long.any_six()?;
             (at, left) = pass_sixes(self.bytes, at, left - 1);
         }
         Some(at - self.at)
