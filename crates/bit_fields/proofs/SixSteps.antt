@@ -234,12 +234,12 @@ last_load count before ends at more bits start s p shown is_near some e = by_chu
         let place : at + 6 * suc chunks ≡ at + bits = omega (arith, e.is, is) in
         subst (HasNumbers 6 (count + more) (record { position = start; bits = s })) place (more_passed count before ends at 9 more chunks start s p shown is_near (omega arith) (subst (Runs (lasts 9 (number s / 2 ^ at)) more) is runs))
 
-pub eight_most : (ends at : ℕ) (s : List Bool) → Shown ends at s → count_ones (bit_and ends (tops 8)) ≤ 8
-eight_most ends at s shown = omega (arith, shown_ones 8 ends at s (omega arith) (omega arith) shown, ended_most (lasts 8 (number s / 2 ^ at)), length-lasts 8 (number s / 2 ^ at))
+-- how many numbers end in eight chunks, and in nine
+pub eight_most : (ends : ℕ) → ends < 2 ^ 64 → count_ones (bit_and ends (tops 8)) ≤ 8
+eight_most ends fits = omega (arith, ones_in 8 ends (omega arith) fits, ended_most (lasts 8 (bit_not w64 ends)), length-lasts 8 (bit_not w64 ends))
 
--- no fewer numbers end in nine chunks than in eight
-pub eight_fewer : (ends at : ℕ) (s : List Bool) → Shown ends at s → count_ones (bit_and ends (tops 8)) ≤ count_ones (bit_and ends (tops 9))
-eight_fewer ends at s shown = omega (arith, shown_ones 8 ends at s (omega arith) (omega arith) shown, shown_ones 9 ends at s (omega arith) (omega arith) shown, fewer 8 (number s / 2 ^ at))
+pub eight_fewer : (ends : ℕ) → ends < 2 ^ 64 → count_ones (bit_and ends (tops 8)) ≤ count_ones (bit_and ends (tops 9))
+eight_fewer ends fits = omega (arith, ones_in 8 ends (omega arith) fits, ones_in 9 ends (omega arith) fits, fewer 8 (bit_not w64 ends))
   where
     fewer : (k word : ℕ) → ended (lasts k word) ≤ ended (lasts (suc k) word)
     fewer zero word = omega arith

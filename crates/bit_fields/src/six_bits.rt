@@ -3,7 +3,7 @@
 //! The top bit of a chunk says that another one follows. A constant has the same six bits for each of the nine chunks, two octal
 //! digits a chunk. Sums and products are of all chunks at once: no chunk's sum reaches 64, so none carries into the next one.
 
-ghost use Rattle.std.specs.Prelude.{◌≡◌, ◌*◌, ◌-◌, ◌<◌, ◌+◌, ◌≤◌, ◌⊎◌, bit_and, count_ones, true, false, IfNone, IfSome};
+ghost use Rattle.std.specs.Prelude.{◌≡◌, ◌+◌, ◌*◌, ◌-◌, ◌<◌, ◌≤◌, ◌⊎◌, bit_and, count_ones, true, false, IfNone, IfSome};
 ghost use Rattle.std.specs.Int.{w64, bit_at, bit_not, leading_zeros, trailing_zeros};
 ghost use Rattle.bit_fields.specs.SixBits.{Begins, NoneFollows, Shortest};
 ghost use Rattle.bit_fields.specs.SixEnds.{EndsWith, tops};

@@ -18,16 +18,10 @@ loop-left-init c =
     }
 
 pub end_of-requires-clause-few : goal.end_of-requires-clause-few
-end_of-requires-clause-few c =
-    let l = c.loop-left in
-    let shown = shown_at c.ends_from-ends.result l.place (bit_and c.args.from 7) c.args.from c.args.bytes.now c.ends_from-ends.type_inv l.invariant.bit l.invariant.on c.if-bytes-place-ge8.true c.ends_from-ends.ensures in
-    omega (arith, eight_most c.ends_from-ends.result (8 * l.place + bit_and c.args.from 7 - c.args.from) (drop c.args.from (bits_of_bytes c.args.bytes.now)) shown, c.from-some.ensures, c.if-some-left.true)
+end_of-requires-clause-few c = omega (arith, eight_most c.ends_from-ends.result c.ends_from-ends.type_inv, c.from-some.ensures, c.if-some-left.true)
 
 pub unreachable-requires : goal.unreachable-requires
-unreachable-requires c =
-    let l = c.loop-left in
-    let shown = shown_at c.ends_from-ends.result l.place (bit_and c.args.from 7) c.args.from c.args.bytes.now c.ends_from-ends.type_inv l.invariant.bit l.invariant.on c.if-bytes-place-ge8.true c.ends_from-ends.ensures in
-    omega (arith, eight_fewer c.ends_from-ends.result (8 * l.place + bit_and c.args.from 7 - c.args.from) (drop c.args.from (bits_of_bytes c.args.bytes.now)) shown, c.from-some.ensures, c.if-some-left.true, c.in_default.ensures.none)
+unreachable-requires c = omega (arith, eight_fewer c.ends_from-ends.result c.ends_from-ends.type_inv, c.from-some.ensures, c.if-some-left.true, c.in_default.ensures.none)
 
 pub returns-then-some-left-clause-has : goal.returns-then-some-left-clause-has
 returns-then-some-left-clause-has c = λ start.
