@@ -33,6 +33,7 @@ pub mod EndMarks
 pub mod TopsBehind
 pub mod Placing
 pub mod LongSixes
+pub mod SixSteps
 pub mod PlainRecords
 pub mod PlainPlaces
 pub mod PlacedNumbers

@@ -12,11 +12,11 @@ use Rattle.bit_grammar.specs.Fields.{vbr}
 use Rattle.bit_fields.specs.Buffered.{BufferedBits, beyond}
 use Rattle.bit_fields.specs.Short.{EndsChunks, payload_number}
 use Rattle.bit_fields.specs.Placed.{HasNumbers, Shows}
+use Rattle.bit_fields.specs.SixEnds.{tops}
 use Rattle.bit_fields.proofs.BitLaws.{bits_of-split, drop-bits_of}
 use Rattle.bit_fields.proofs.EndMarks.{bit_behind, same_bits, ends_chunks}
 use Rattle.bit_fields.proofs.Placing.{has_one, set_bit, clear_bit}
 use Rattle.bit_fields.proofs.Short.{fitting_reads}
-use Rattle.bit_fields.proofs.SixBitSums.{tops}
 
 -- ---- two words as one
 

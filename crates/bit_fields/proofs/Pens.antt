@@ -42,9 +42,6 @@ held_begun bytes bits h = (replicate (8 - length bits % 8) false ++ h.0, h.1)
 begun_less : (bytes : List ℕ) (s t : List Bool) → BeginWith bytes (s ++ t) → BeginWith bytes s
 begun_less bytes s t h = (t ++ h.0, h.1 ∙ append_assoc s t h.0)
 
-pub keeps_begun : (at : ℕ) (bytes : List ℕ) → KeepsFront at bytes bytes
-keeps_begun at bytes = record { same = refl; front = λ bits len h. held_begun bytes bits h }
-
 pub puts_keeps : (s : List Bool) (at after : ℕ) (a b : List ℕ) → Puts s at a after b → KeepsFront at a b
 puts_keeps s at after a b p = record {
   same = p.same;

@@ -1,12 +1,11 @@
 -- Placed bits: what a load of them shows, and the lengths of numbers in them.
-use Rattle.std.proofs.Common.{◌≡◌, ◌≢◌, ℕ, zero, suc, ◌+◌, ◌*◌, ◌-◌, ◌/◌, ◌%◌, ◌^◌, ◌<◌, ◌≤◌, ◌⊎◌, Bool, List, [], ◌∷◌, ◌++◌, length, take, drop, Ok, refl, sym, ap, ◌∙◌, subst, arith, bit_and, bit_or, min, max, inl, inr}
-use Rattle.std.specs.Prelude.{◌↔◌}
+use Rattle.std.proofs.Common.{◌≡◌, ℕ, zero, suc, ◌+◌, ◌*◌, ◌-◌, ◌/◌, ◌%◌, ◌^◌, ◌<◌, ◌≤◌, Bool, List, [], ◌∷◌, ◌++◌, length, take, drop, Ok, refl, sym, ap, ◌∙◌, subst, arith, bit_and, bit_or, min, inl, inr}
 use Rattle.std.specs.Int.{w64, bit_at, bit_not, trailing_zeros}
 use Rattle.std.proofs.lemmas.Bool.{cases_lt}
 use Rattle.std.proofs.lemmas.List.{take-append-drop, length-drop, length-append, append-nil, drop-take}
-use Rattle.std.proofs.lemmas.Nat.{and_le_l, and_mask, shr_le, one_shl, or_lt, or_comm, or_shifted, pow_below, pow_pos, div-add-mod'}
-use Rattle.std.proofs.lemmas.Nat.Bits.{bit_at_and, bit_at_or, bit_at_not, bit_at-lt, bit_at-zero, bit_at-pow_same, bit_at-pow_other, and_pow, and_high, and_high_mask}
-use Rattle.std.proofs.Math.Nat.{div-eq_of_lt, mod-eq_of_lt, mul-mod_left, add-mod_right, mul-add-mod_self_right}
+use Rattle.std.proofs.lemmas.Nat.{and_le_l, and_mask, shr_le, or_comm, or_shifted, pow_pos}
+use Rattle.std.proofs.lemmas.Nat.Bits.{bit_at_and, bit_at_not, bit_at-lt, and_pow, and_high, and_high_mask}
+use Rattle.std.proofs.Math.Nat.{div-eq_of_lt, mod-eq_of_lt}
 use Rattle.std.proofs.Math.Pow.{pow_mono}
 use Rattle.std.proofs.Math.Seq.{drop-append-add}
 use Rattle.bit_grammar.specs.Bits.{bits_of, bits_of_bytes, number}
@@ -38,69 +37,6 @@ not_there x i k below le =
 
 below_top : (x i k : ℕ) → x < 2 ^ k → bit_at x i ≡ 1 → i < k
 below_top x i k below set = elim (cases_lt i k) [ inl lt ↦ lt | inr le ↦ absurd (omega (arith, set, not_there x i k below le)) ]
-
--- ---- the top bits of chunks
-
--- the top bits of chunks below a place, itself one
-pub record TopsBelow (n at tops : ℕ) : Type 0 where
-  pub below : tops < 2 ^ 57
-  pub place : suc at % n ≡ 0
-  pub each : (i : ℕ) → (bit_at tops i ≡ 1) ↔ ((suc i % n ≡ 0) × (i < at))
-
-pub no_tops : (n : ℕ) → 2 ≤ n → TopsBelow n (n - 1) 0
-no_tops n two = record {
-  below = omega arith;
-  place = ap (λ (x : ℕ). x % n) (let e : suc (n - 1) ≡ 1 * n = omega (arith, two) in e) ∙ mul-mod_left 1 n;
-  each = λ i. (λ set. absurd (omega (arith, set, bit_at-zero i)), λ h. absurd (none i h.0 h.1));
-}
-  where
-    none : (i : ℕ) → suc i % n ≡ 0 → i < n - 1 → ⊥
-    none i whole lt = let e : suc i % n ≡ suc i = mod-eq_of_lt (omega (arith, lt)) in omega (arith, e, whole)
-
-pub more_tops : (n at tops : ℕ) → 2 ≤ n → at < 57 → TopsBelow n at tops → TopsBelow n (at + n) (bit_or tops (1 * 2 ^ at % 2 ^ 64))
-more_tops n at tops two lt t =
-    let one : 1 * 2 ^ at % 2 ^ 64 ≡ 2 ^ at = one_shl at 64 (omega (arith, lt)) in
-    subst (λ (x : ℕ). TopsBelow n (at + n) (bit_or tops x)) (sym one) (record {
-      below = or_lt 57 tops (2 ^ at) t.below (pow_below at 57 lt);
-      place = ap (λ (x : ℕ). x % n) (let e : suc (at + n) ≡ suc at + n = omega arith in e) ∙ add-mod_right (suc at) n ∙ t.place;
-      each = λ i. (λ set. is_top i set (same_or i), λ h. has_top i h.0 h.1 (cases_lt i at));
-    })
-  where
-    both : (i : ℕ) → bit_at (bit_or tops (2 ^ at)) i ≡ max (bit_at tops i) (bit_at (2 ^ at) i)
-    both i = bit_at_or tops (2 ^ at) i
-
-    same_or : (i : ℕ) → (i ≡ at) ⊎ (i ≢ at)
-    same_or i = elim (cases_lt i at) [
-      | inl lt ↦ inr (λ e. omega (arith, lt, e))
-      | inr le ↦ elim (cases_lt at i) [ inl lt ↦ inr (λ e. omega (arith, lt, e)) | inr ge ↦ inl (omega (arith, le, ge)) ]
-    ]
-
-    is_top : (i : ℕ) → bit_at (bit_or tops (2 ^ at)) i ≡ 1 → (i ≡ at) ⊎ (i ≢ at) → (suc i % n ≡ 0) × (i < at + n)
-    is_top i set (inl e) = (ap (λ (x : ℕ). suc x % n) e ∙ t.place, omega (arith, e, two))
-    is_top i set (inr other) =
-        let before : bit_at tops i ≡ 1 = omega (arith, both i, set, bit_at-pow_other at i other, bit_at-lt tops i) in
-        let h = (t.each i).0 before in
-        (h.0, omega (arith, h.1))
-
-    apart : (i d : ℕ) → suc i ≡ suc at + suc d → suc d < n → suc i % n ≡ 0 → ⊥
-    apart i d e less whole =
-        let at_is : suc at ≡ suc at / n * n = omega (arith, div-add-mod' (suc at) n, t.place) in
-        let sum : suc i ≡ suc at / n * n + suc d = omega (arith, e, at_is) in
-        let rest : suc i % n ≡ suc d = ap (λ (x : ℕ). x % n) sum ∙ mul-add-mod_self_right (suc at / n) n (suc d) ∙ mod-eq_of_lt less in
-        omega (arith, rest, whole)
-
-    has_top : (i : ℕ) → suc i % n ≡ 0 → i < at + n → (i < at) ⊎ (at ≤ i) → bit_at (bit_or tops (2 ^ at)) i ≡ 1
-    has_top i whole less (inl lt) = let set : bit_at tops i ≡ 1 = (t.each i).1 (whole, lt) in omega (arith, both i, set, bit_at-lt (2 ^ at) i)
-    has_top i whole less (inr le) = elim (cases_lt at i) [
-      | inl lt ↦ absurd (apart i (i - suc at) (omega (arith, lt)) (omega (arith, lt, less)) whole)
-      | inr ge ↦ let e : at ≡ i = omega (arith, le, ge) in let set : bit_at (2 ^ at) i ≡ 1 = subst (λ (x : ℕ). bit_at (2 ^ at) x ≡ 1) e (bit_at-pow_same at) in omega (arith, both i, set, bit_at-lt tops i)
-    ]
-
-pub all_tops : (n at tops : ℕ) → 57 ≤ at → TopsBelow n at tops → AreTops n tops
-all_tops n at tops most t = record {
-  below = t.below;
-  each = λ i lt. (λ set. ((t.each i).0 set).0, λ whole. (t.each i).1 (whole, omega (arith, lt, most)));
-}
 
 -- ---- few numbers
 
@@ -169,7 +105,7 @@ placed_new word held first more position bytes more_is le =
 
 -- ---- buffered bits at the place
 
-low_three : (at : ℕ) → bit_and at 7 ≡ at % 8
+pub low_three : (at : ℕ) → bit_and at 7 ≡ at % 8
 low_three at = and_mask at 3
 
 pub part_there : (at : ℕ) (bytes : List ℕ) → at ≤ 8 * length bytes → bit_and at 7 ≤ length (bits_of_bytes (take (length bytes - at / 8) (drop (at / 8) bytes)))
@@ -245,12 +181,19 @@ ends_shown at word bytes there fits is =
     subst (λ (k : ℕ). Shows (bit_not w64 word / 2 ^ k) (drop at (bits_of_bytes bytes))) (sym (low_three at))
     (subst (Shows (bit_not w64 word / 2 ^ (at % 8))) e.rest (shows_after (at % 8) (bit_not w64 word) s (not_small word) (shows_word word s fits e.there e.seen)))
 
+-- the bits from a bit of a byte on
+pub front_from : (place shift word : ℕ) (bytes : List ℕ) → place + 8 ≤ length bytes → shift < 8 → word < 2 ^ 64 → bits_of 64 word ≡ bits_of_bytes (take 8 (take (length bytes - place) (drop place bytes))) → (n : ℕ) → n ≤ 57 → bits_of n (bit_not w64 (bit_not w64 word / 2 ^ shift)) ≡ take n (drop (8 * place + shift) (bits_of_bytes bytes))
+front_from place shift word bytes there low fits is n few =
+    let rest : List ℕ = take (length bytes - place) (drop place bytes) in
+    let some : 8 ≤ length rest = omega (arith, ap length (left_after place bytes), length-drop place bytes, there) in
+    let enough : shift + n ≤ 64 = omega (arith, low, few) in
+    let behind : drop shift (bits_of_bytes rest) ≡ drop (8 * place + shift) (bits_of_bytes bytes) = ap (λ (xs : List ℕ). drop shift (bits_of_bytes xs)) (sym (left_after place bytes)) ∙ ap (drop shift) (bytes_dropped place bytes (omega (arith, there))) ∙ drop_more (8 * place) shift (bits_of_bytes bytes) in
+    front_after shift n (bit_not w64 word) (bits_of_bytes rest) (not_small word) enough (word_front word (bits_of_bytes rest) fits (is ∙ bits_of_bytes-take 8 rest some) (shift + n) enough) ∙ ap (take n) behind
+
 pub ends_front : (at word : ℕ) (bytes : List ℕ) → 64 ≤ length (drop at (bits_of_bytes bytes)) → word < 2 ^ 64 → bits_of 64 word ≡ bits_of_bytes (take 8 (take (length bytes - at / 8) (drop (at / 8) bytes))) → (n : ℕ) → n ≤ 57 → bits_of n (bit_not w64 (bit_not w64 word / 2 ^ bit_and at 7)) ≡ take n (drop at (bits_of_bytes bytes))
 ends_front at word bytes there fits is n few =
-    let s : List Bool = bits_of_bytes (take (length bytes - at / 8) (drop (at / 8) bytes)) in
-    let e = eight_at at word bytes there is in
-    let some : at % 8 + n ≤ 64 = omega (arith, few) in
-    ap (λ (k : ℕ). bits_of n (bit_not w64 (bit_not w64 word / 2 ^ k))) (low_three at) ∙ front_after (at % 8) n (bit_not w64 word) s (not_small word) some (word_front word s fits e.seen (at % 8 + n) some) ∙ ap (take n) e.rest
+    let place : 8 * (at / 8) + at % 8 ≡ at = omega arith in
+    ap (λ (k : ℕ). bits_of n (bit_not w64 (bit_not w64 word / 2 ^ k))) (low_three at) ∙ front_from (at / 8) (at % 8) word bytes (omega (arith, length_at at bytes, there)) (omega arith) fits is n few ∙ ap (λ (k : ℕ). take n (drop k (bits_of_bytes bytes))) place
 
 -- only the first n bits of a word
 pub front_shown : (n word : ℕ) (s : List Bool) → n ≤ 57 → bits_of n word ≡ take n s → bits_of n (bit_and word (1 * 2 ^ n % 2 ^ 64 - 1)) ≡ take n s

@@ -16,9 +16,9 @@ use Rattle.bit_grammar.proofs.Readings.Deciding.{is_spelled, position-first}
 use Rattle.bit_grammar.proofs.Readings.Sequences.{made}
 use Rattle.bit_grammar.proofs.Words.Fields.{AreChunks, chunks_are, joined, length-chunked}
 use Rattle.bit_fields.specs.SixBits.{NeedsAll, Shortest}
+use Rattle.bit_fields.specs.SixEnds.{tops}
 use Rattle.bit_fields.proofs.BitLaws.{number-bits_mod, take-bits_of, bits_of-split, bits_of-number, bits_of-mod}
 use Rattle.bit_fields.proofs.SixBits.{any_after, length-front}
-use Rattle.bit_fields.proofs.SixBitSums.{tops}
 
 -- ---- payloads
 

@@ -2,20 +2,17 @@
 use Rattle.std.proofs.Common.{◌≡◌, ℕ, zero, suc, ◌+◌, ◌*◌, ◌-◌, ◌/◌, ◌%◌, ◌^◌, ◌<◌, ◌≤◌, Bool, true, false, eqb, List, [], ◌∷◌, length, refl, sym, ap, ◌∙◌, subst, arith, bit_and, inl, inr}
 use Rattle.std.specs.Int.{w64, bit_at, bit_not, trailing_zeros}
 use Rattle.std.proofs.lemmas.Bool.{cases_lt, eqb-true}
-use Rattle.std.proofs.lemmas.Nat.{shr-shr, pow-add, pow_pos, and_block, and-not, and_le_r, and_mask, and_mod, mod_low, leading_length, shl-shr}
+use Rattle.std.proofs.lemmas.Nat.{shr-shr, pow-add, pow_pos, and_block, and-not, and_le_r, and_mask, and_mod, mod_low, leading_length, ones_cat, shl-shr}
 use Rattle.std.specs.Int.Count.{count_leading_zeros}
+use Rattle.std.specs.Int.RustNames.{count_ones}
 use Rattle.std.proofs.lemmas.Nat.Bits.{and_pow, bit_at_not, bit_at-lt, bit_at-trailing_zeros}
 use Rattle.std.proofs.Math.Nat.{mod-eq_of_lt}
 use Rattle.std.proofs.Math.Pow.{pow_mono, mod-mod-pow}
 use Rattle.bit_grammar.specs.Bits.{bit}
 use Rattle.bit_fields.specs.Short.{EndsChunks}
 use Rattle.bit_fields.specs.SixBits.{Begins, NoneFollows}
-use Rattle.bit_fields.proofs.SixBits.{lasts, Runs, length-lasts, runs_within, runs_many, runs_none, begins}
-
--- the top bit of each of k chunks
-abbrev pub tops : ℕ → ℕ
-tops zero = 0
-tops (suc k) = tops k * 64 + 32
+use Rattle.bit_fields.specs.SixEnds.{EndsWith, Runs, lasts, tops}
+use Rattle.bit_fields.proofs.SixBits.{length-lasts, runs_within, runs_many, runs_none, begins}
 
 -- the lowest bit of each of k chunks
 abbrev pub ones : ℕ → ℕ
@@ -37,11 +34,11 @@ abbrev pub sums : (before : ℕ) → List Bool → ℕ
 sums before [] = 0
 sums before (last ∷ ends) = before + bit last + 64 * sums (before + bit last) ends
 
-bit_most : (b : Bool) → bit b ≤ 1
+pub bit_most : (b : Bool) → bit b ≤ 1
 bit_most true = omega arith
 bit_most false = omega arith
 
-six_more : (n : ℕ) → 2 ^ (6 * suc n) ≡ 64 * 2 ^ (6 * n)
+pub six_more : (n : ℕ) → 2 ^ (6 * suc n) ≡ 64 * 2 ^ (6 * n)
 six_more n = let e : 6 * suc n ≡ 6 + 6 * n = omega arith in ap (λ (k : ℕ). 2 ^ k) e ∙ pow-add 2 6 (6 * n)
 
 -- ---- the marks of a word
@@ -50,7 +47,7 @@ six_more n = let e : 6 * suc n ≡ 6 + 6 * n = omega arith in ap (λ (k : ℕ). 
 tops_apart : (k high low : ℕ) → low < 64 → bit_and (high * 64 + low) (tops (suc k)) ≡ bit_and high (tops k) * 64 + (low / 32 % 2) * 32
 tops_apart k high low lt = and_block 6 high (tops k) low 32 lt (omega arith) ∙ ap (λ (x : ℕ). bit_and high (tops k) * 64 + x) (and_pow low 5)
 
-bit-eqb_none : (r : ℕ) → r < 2 → r + bit (eqb r 0) ≡ 1
+pub bit-eqb_none : (r : ℕ) → r < 2 → r + bit (eqb r 0) ≡ 1
 bit-eqb_none zero lt = refl
 bit-eqb_none (suc zero) lt = refl
 bit-eqb_none (suc (suc r)) lt = absurd (omega (arith, lt))
@@ -70,10 +67,10 @@ tops_marked (suc k) word =
     let apart : bit_and word (tops (suc k)) ≡ bit_and (word / 64) (tops k) * 64 + (word % 64 / 32 % 2) * 32 = ap (λ (w : ℕ). bit_and w (tops (suc k))) parts ∙ tops_apart k (word / 64) (word % 64) (omega arith) in
     omega (arith, apart, same, tops_marked k (word / 64), bit-eqb_none (word / 32 % 2) (omega arith))
 
-pub ends_marked : (word ends : ℕ) → word < 2 ^ 64 → ends ≡ bit_and (2 ^ 64 - 1 - word) (tops 9) → ends ≡ 32 * marked (lasts 9 word)
-ends_marked word ends fits is =
-    let both : bit_and (2 ^ 64 - 1 - word) (tops 9) + bit_and word (tops 9) ≡ tops 9 = and-not 64 word (tops 9) fits (omega arith) in
-    only ends (bit_and (2 ^ 64 - 1 - word) (tops 9)) (bit_and word (tops 9)) (32 * marked (lasts 9 word)) (tops 9) is both (tops_marked 9 word)
+pub ends_marked : (k word ends : ℕ) → tops k < 2 ^ 64 → word < 2 ^ 64 → ends ≡ bit_and (2 ^ 64 - 1 - word) (tops k) → ends ≡ 32 * marked (lasts k word)
+ends_marked k word ends small fits is =
+    let both : bit_and (2 ^ 64 - 1 - word) (tops k) + bit_and word (tops k) ≡ tops k = and-not 64 word (tops k) fits small in
+    only ends (bit_and (2 ^ 64 - 1 - word) (tops k)) (bit_and word (tops k)) (32 * marked (lasts k word)) (tops k) is both (tops_marked k word)
   where
     only : (ends not_there there marks all : ℕ) → ends ≡ not_there → not_there + there ≡ all → there + marks ≡ all → ends ≡ marks
     only ends not_there there marks all is one other = omega (arith, is, one, other)
@@ -134,7 +131,7 @@ pub total_is : (word sum total : ℕ) → sum ≡ sums 0 (lasts 9 word) → tota
 total_is word sum total sum_is is = is ∙ ap (λ (x : ℕ). x / 2 ^ 48) sum_is ∙ last_sum 8 (lasts 9 word) 0 refl (omega arith) ∙ omega arith
 
 -- the chunks up to the last one that ends a number
-record Last (ends : List Bool) : Type 0 where
+pub record Last (ends : List Bool) : Type 0 where
   pub chunks : ℕ
   pub runs : Runs ends (ended ends) chunks
   pub below : 32 * marked ends < 2 ^ (6 * chunks)
@@ -165,7 +162,7 @@ last_one false ends r zero is =
     let empty : 32 * marked ends < 1 = subst (λ (k : ℕ). 32 * marked ends < 2 ^ (6 * k)) is r.below in
     record { chunks = 0; runs = omega (arith, none); below = omega (arith, empty); some = λ some. absurd (omega (arith, some)) }
 
-last_of : (ends : List Bool) → Last ends
+pub last_of : (ends : List Bool) → Last ends
 last_of [] = record { chunks = 0; runs = refl; below = omega arith; some = λ some. absurd (omega (arith, some)) }
 last_of (last ∷ ends) = let r = last_of ends in last_one last ends r r.chunks refl
 
@@ -181,7 +178,7 @@ ended_next true marks count chunks after later h = omega (arith, later h.0 h.2, 
 ended_next false marks count chunks after later h = omega (arith, later count h.1)
 
 -- how many end after some numbers
-ended_after : (k count chunks more word : ℕ) → k ≡ chunks + more → Runs (lasts k word) count chunks → ended (lasts k word) ≡ count + ended (lasts more (word / 2 ^ (6 * chunks)))
+pub ended_after : (k count chunks more word : ℕ) → k ≡ chunks + more → Runs (lasts k word) count chunks → ended (lasts k word) ≡ count + ended (lasts more (word / 2 ^ (6 * chunks)))
 ended_after k count zero more word k_is h =
     let same : k ≡ more = omega (arith, k_is) in
     let here : word ≡ word / 2 ^ (6 * 0) = omega arith in
@@ -214,6 +211,15 @@ length_between m n x below some low high = elim (cases_lt m n) [
     | inr ge ↦ omega (arith, le, ge)
   ]
 ]
+
+-- where the last one ends
+pub last_place : (marks : List Bool) (last : Last marks) (ends : ℕ) → last.chunks ≤ 9 → ends ≡ 32 * marked marks → count_leading_zeros 64 ends + 6 * last.chunks ≡ 64
+last_place marks last ends nine is =
+    let below : ends < 2 ^ (6 * last.chunks) = subst (λ (x : ℕ). x < 2 ^ (6 * last.chunks)) (sym is) last.below in
+    let wide : 2 ^ (6 * last.chunks) ≤ 2 ^ 64 = pow_mono {i = 6 * last.chunks} {j = 64} (omega (arith, nine)) in
+    let long = leading_length 64 ends (omega (arith, below, wide)) in
+    let same : long.0 ≡ 6 * last.chunks = length_between long.0 (6 * last.chunks) ends long.2 long.3 below (λ some. omega (arith, is, last.some (omega (arith, some)))) in
+    omega (arith, long.1, same)
 
 -- ---- some of the numbers
 
@@ -314,6 +320,7 @@ runs_last (suc k) word count chunks h = by_first (eqb (word / 2 ^ 5 % 2) 0) chun
 -- whole numbers at the front of a word's chunks
 pub record Ran (word count bits : ℕ) : Type 0 where
   pub begins : Begins word count bits
+  pub ends : EndsWith word count bits
   pub within : bits ≤ 54
   pub none : count ≡ 0 → bits ≡ 0
   pub some : 6 * count ≤ bits
@@ -324,6 +331,7 @@ ran word count bits chunks h is =
     let many : count ≤ chunks = runs_many (lasts 9 word) count chunks h in
     record {
       begins = subst (Begins word count) (sym is) (begins word count chunks h);
+      ends = record { chunks = chunks; is = is; runs = h };
       within = omega (arith, nine, is);
       none = λ none. is ∙ ap (λ (n : ℕ). 6 * n) (runs_none (lasts 9 word) count chunks h none);
       some = omega (arith, many, is);
@@ -351,7 +359,7 @@ pub summed : (word : ℕ) → word < 2 ^ 64 → Summed word (ends_in word) (sum_
 summed word fits = record { fits = fits; ends_are = refl; sum_is = refl; total_is = refl }
 
 marks_of : {word ends sum total : ℕ} → Summed word ends sum total → ends ≡ 32 * marked (lasts 9 word)
-marks_of {word} {ends} s = ends_marked word ends s.fits s.ends_are
+marks_of {word} {ends} s = ends_marked 9 word ends (omega arith) s.fits s.ends_are
 
 sums_of : {word ends sum total : ℕ} → Summed word ends sum total → sum ≡ sums 0 (lasts 9 word)
 sums_of {word} {ends} {sum} s = sums_are word ends sum (marks_of s) s.sum_is
@@ -359,7 +367,7 @@ sums_of {word} {ends} {sum} s = sums_are word ends sum (marks_of s) s.sum_is
 total_of : {word ends sum total : ℕ} → Summed word ends sum total → total ≡ ended (lasts 9 word)
 total_of {word} {ends} {sum} {total} s = total_is word sum total (sums_of s) s.total_is
 
-ended_most : (ends : List Bool) → ended ends ≤ length ends
+pub ended_most : (ends : List Bool) → ended ends ≤ length ends
 ended_most [] = omega arith
 ended_most (last ∷ ends) = omega (arith, bit_most last, ended_most ends)
 
@@ -370,19 +378,14 @@ pub all_ran : {word ends sum total : ℕ} → Summed word ends sum total → Ran
 all_ran {word} {ends} {sum} {total} s =
     let last = last_of (lasts 9 word) in
     let nine : last.chunks ≤ 9 = runs_within (lasts 9 word) (ended (lasts 9 word)) last.chunks last.runs in
-    let is : ends ≡ 32 * marked (lasts 9 word) = marks_of s in
-    let below : ends < 2 ^ (6 * last.chunks) = subst (λ (x : ℕ). x < 2 ^ (6 * last.chunks)) (sym is) last.below in
-    let wide : 2 ^ (6 * last.chunks) ≤ 2 ^ 64 = pow_mono {i = 6 * last.chunks} {j = 64} (omega (arith, nine)) in
-    let long = leading_length 64 ends (omega (arith, below, wide)) in
-    let same : long.0 ≡ 6 * last.chunks = length_between long.0 (6 * last.chunks) ends long.2 long.3 below (λ some. omega (arith, is, last.some (omega (arith, some)))) in
-    let bits : 64 - count_leading_zeros 64 ends ≡ 6 * last.chunks = omega (arith, long.1, same) in (
+    let bits : 64 - count_leading_zeros 64 ends ≡ 6 * last.chunks = omega (arith, last_place (lasts 9 word) last ends nine (marks_of s)) in (
       subst (λ (n : ℕ). Ran word n (64 - count_leading_zeros 64 ends)) (sym (total_of s)) (ran word (ended (lasts 9 word)) (64 - count_leading_zeros 64 ends) last.chunks last.runs bits),
       none_follows word last.chunks (64 - count_leading_zeros 64 ends) last.runs bits,
     )
 
 -- the first chunks where so many numbers have ended, and the last bit of these chunks
 pub some_ended : {word ends sum total : ℕ} (most : ℕ) → Summed word ends sum total → 0 < most → most ≤ total
-    → Ran word most (trailing_zeros w64 (bit_and (sum + (32 - most) * ones 9) (tops 9)) + 1) × (bit_at word (trailing_zeros w64 (bit_and (sum + (32 - most) * ones 9) (tops 9))) ≡ 0)
+    → Ran word most (trailing_zeros w64 (bit_and (sum + (32 - most) * ones 9) (tops 9)) + 1) × (bit_at word (trailing_zeros w64 (bit_and (sum + (32 - most) * ones 9) (tops 9))) ≡ 0) × (0 < bit_and (sum + (32 - most) * ones 9) (tops 9))
 some_ended {word} {ends} {sum} {total} most s some fewer =
     let nine : total ≤ 9 = nine_at_most s in
     let wanted : most ≡ suc (most - 1) = omega (arith, some) in
@@ -393,6 +396,7 @@ some_ended {word} {ends} {sum} {total} most s some fewer =
     let place : trailing_zeros w64 x ≡ 6 * found.before + 5 = lowest_is x (6 * found.before + 5) found.high fits x_is in (
       subst (λ (n : ℕ). Ran word n (trailing_zeros w64 x + 1)) (sym wanted) (ran word (suc (most - 1)) (trailing_zeros w64 x + 1) (suc found.before) found.runs (omega (arith, place))),
       ap (bit_at word) place ∙ runs_last 9 word (suc (most - 1)) found.before found.runs,
+      omega (arith, x_is, pow_pos (6 * found.before + 5)),
     )
 
 pub some_ran : {word ends sum total : ℕ} (most : ℕ) → Summed word ends sum total → 0 < most → most < total → Ran word most (trailing_zeros w64 (bit_and (sum + (32 - most) * ones 9) (tops 9)) + 1)
@@ -459,5 +463,35 @@ end_ran ends count fits some few reached = ran_to (bit_and ends (tops 9)) (sum_o
 
     ran_to : (marks total : ℕ) → Summed word marks (sum_of marks) total → (reached_in marks count ≡ 0 → ⊥) → Ran word count (trailing_zeros w64 (reached_in marks count) + 1) × (bit_at ends (trailing_zeros w64 (reached_in marks count)) ≡ 1)
     ran_to marks total s reached =
-        let r = subst (λ (x : ℕ). Ran word count (trailing_zeros w64 x + 1) × (bit_at word (trailing_zeros w64 x) ≡ 0)) (sym (reached_is marks count)) (some_ended count s some (enough marks total s reached)) in
+        let found = some_ended count s some (enough marks total s reached) in
+        let r = subst (λ (x : ℕ). Ran word count (trailing_zeros w64 x + 1) × (bit_at word (trailing_zeros w64 x) ≡ 0)) (sym (reached_is marks count)) (found.0, found.1) in
         (r.0, last (trailing_zeros w64 (reached_in marks count)) r.0 r.1)
+
+-- how many 1s mark the ends
+ones_marked : (ends : List Bool) → count_ones (32 * marked ends) ≡ ended ends
+unfolding count_ones
+ones_marked [] = refl
+ones_marked (last ∷ ends) =
+    let apart : 32 * (bit last + 64 * marked ends) ≡ 32 * marked ends * 2 ^ 6 + 32 * bit last = omega arith in
+    ap count_ones apart ∙ ones_cat 6 (32 * marked ends) (32 * bit last) (omega (arith, bit_most last)) ∙ omega (arith, ones_marked ends, one last)
+  where
+    one : (last : Bool) → count_ones (32 * bit last) ≡ bit last
+    one true = refl
+    one false = refl
+
+pub marked_in : (k ends : ℕ) → tops k < 2 ^ 64 → ends < 2 ^ 64 → bit_and ends (tops k) ≡ 32 * marked (lasts k (bit_not w64 ends))
+marked_in k ends small fits =
+    let same : ends ≡ 2 ^ 64 - 1 - bit_not w64 ends = omega (arith, fits) in
+    ends_marked k (bit_not w64 ends) (bit_and ends (tops k)) small (omega arith) (ap (λ (x : ℕ). bit_and x (tops k)) same)
+
+pub ones_in : (k ends : ℕ) → tops k < 2 ^ 64 → ends < 2 ^ 64 → count_ones (bit_and ends (tops k)) ≡ ended (lasts k (bit_not w64 ends))
+ones_in k ends small fits = ap count_ones (marked_in k ends small fits) ∙ ones_marked (lasts k (bit_not w64 ends))
+
+pub none_ran : (ends count : ℕ) → ends < 2 ^ 64 → 0 < count → reached_in (bit_and ends (tops 9)) count ≡ 0 → count_ones (bit_and ends (tops 9)) < count
+none_ran ends count fits some none =
+    let marks : ℕ = bit_and ends (tops 9) in
+    let s = summed_of ends fits in
+    elim (cases_lt (count_ones marks) count) [
+      | inl lt ↦ lt
+      | inr le ↦ absurd (omega (arith, (some_ended count s some (omega (arith, le, ones_in 9 ends (omega arith) fits, total_of s))).2, reached_is marks count, none))
+    ]

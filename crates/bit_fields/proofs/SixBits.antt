@@ -10,22 +10,11 @@ use Rattle.bit_grammar.proofs.Bits.Numbers.{length-bits_of}
 use Rattle.bit_grammar.proofs.Readings.Deciding.{reads, is_spelled}
 use Rattle.bit_fields.specs.Short.{EndsChunks, payload_number}
 use Rattle.bit_fields.specs.SixBits.{Begins}
+use Rattle.bit_fields.specs.SixEnds.{Runs, lasts}
 use Rattle.bit_fields.proofs.BitLaws.{window_rest, bits_of-split}
 use Rattle.bit_fields.proofs.Short.{short_reads}
 
 -- ---- the chunks that end a number
-
--- of the first k chunks of a word, which ones end a number
-abbrev pub lasts : (k word : ℕ) → List Bool
-lasts zero word = []
-lasts (suc k) word = eqb (word / 32 % 2) 0 ∷ lasts k (word / 64)
-
--- the first `chunks` chunks are `count` numbers
-abbrev pub Runs : List Bool → (count chunks : ℕ) → Type 0
-Runs ends count zero = count ≡ 0
-Runs [] count (suc chunks) = ⊥
-Runs (true ∷ ends) count (suc chunks) = (others : ℕ) × (count ≡ suc others) × Runs ends others chunks
-Runs (false ∷ ends) count (suc chunks) = (0 < chunks) × Runs ends count chunks
 
 pub length-lasts : (k word : ℕ) → length (lasts k word) ≡ k
 length-lasts zero word = refl
@@ -112,22 +101,22 @@ first_number (suc k) word count chunks h = by_top k word count chunks (eqb (word
 
 -- ---- what the rule reads
 
-number_reads : (first chunks word p : ℕ) (rest : List Bool) → first ≤ chunks → chunks ≤ 9 → EndsChunks 5 first word
+number_reads : (first chunks word p : ℕ) (rest : List Bool) → first ≤ chunks → first ≤ 12 → EndsChunks 5 first word
     → reading (vbr 6) p (bits_of (6 * chunks) word ++ rest) ≡ Ok (payload_number 5 first word, p + 6 * first, bits_of (6 * (chunks - first)) (word / 2 ^ (6 * first)) ++ rest)
 unfolding vbr
-number_reads first chunks word p rest few nine ends =
-    let read = short_reads first 5 p 13 64 (6 * chunks) word p rest ends (omega (arith, few, nine)) (omega (arith, few)) (omega (arith, few, nine)) in
+number_reads first chunks word p rest few short ends =
+    let read = short_reads first 5 p 13 64 (6 * chunks) word p rest ends (omega (arith, short)) (omega (arith, few)) (omega (arith, short)) in
     let turned : first * 6 ≡ 6 * first = omega arith in
     let held : 6 * chunks - 6 * first ≡ 6 * (chunks - first) = omega arith in
     let behind : drop (6 * first) (bits_of (6 * chunks) word) ≡ bits_of (6 * (chunks - first)) (word / 2 ^ (6 * first)) = sym (window_rest (6 * chunks) word (6 * first) (bits_of (6 * chunks) word) (omega (arith, few)) refl) ∙ ap (λ (n : ℕ). bits_of n (word / 2 ^ (6 * first))) held in
     read ∙ rw (turned, behind) refl
 
-abbrev ReadsRun : (word count chunks p : ℕ) (rest : List Bool) → Type 0
+abbrev pub ReadsRun : (word count chunks p : ℕ) (rest : List Bool) → Type 0
 ReadsRun word count chunks p rest = (values : List ℕ) × (length values ≡ count) × (reading (repeat count (vbr 6)) p (bits_of (6 * chunks) word ++ rest) ≡ Ok (values, p + 6 * chunks, rest))
 
-one_before : (word others first left p : ℕ) (rest : List Bool) → first + left ≤ 9 → EndsChunks 5 first word → ReadsRun (word / 2 ^ (6 * first)) others left (p + 6 * first) rest → ReadsRun word (suc others) (first + left) p rest
-one_before word others first left p rest nine ends later =
-    let one = number_reads first (first + left) word p rest (omega arith) nine ends in
+one_before : (word others first left p : ℕ) (rest : List Bool) → first ≤ 12 → EndsChunks 5 first word → ReadsRun (word / 2 ^ (6 * first)) others left (p + 6 * first) rest → ReadsRun word (suc others) (first + left) p rest
+one_before word others first left p rest short ends later =
+    let one = number_reads first (first + left) word p rest (omega arith) short ends in
     let behind : first + left - first ≡ left = omega arith in
     let place : p + 6 * first + 6 * left ≡ p + 6 * (first + left) = omega arith in
     (payload_number 5 first word ∷ later.0, ap suc later.1, rw (one, behind, later.2, place) refl)
@@ -142,6 +131,48 @@ run_reads (suc fuel) k word count (suc chunks) p rest few nine h =
     let later = run_reads fuel f.more (word / 2 ^ (6 * f.first)) f.others f.left (p + 6 * f.first) rest (omega (arith, f.chunks_are, f.some, few)) (omega (arith, f.chunks_are, nine)) f.runs in
     let all = one_before word f.others f.first f.left p rest (omega (arith, f.chunks_are, nine)) f.ends later in
     rw (f.count_is, f.chunks_are) all
+
+-- ---- a number that begins before a word
+
+-- the first chunks of a word go on
+abbrev pub Opens : (count word : ℕ) → Type 0
+Opens zero word = Unit {0}
+Opens (suc count) word = (word / 2 ^ 5 % 2 ≡ 1) × Opens count (word / 2 ^ 6)
+
+-- a word behind more of its chunks
+pub behind_more : (word i j : ℕ) → word / 2 ^ (6 * i) / 2 ^ (6 * j) ≡ word / 2 ^ (6 * (i + j))
+behind_more word i j = let e : 6 * i + 6 * j ≡ 6 * (i + j) = omega arith in shr-shr word (6 * i) (6 * j) ∙ ap (λ (n : ℕ). word / 2 ^ n) e
+
+behind_next : (word begun : ℕ) → word / 2 ^ (6 * suc begun) ≡ word / 2 ^ 6 / 2 ^ (6 * begun)
+behind_next word begun = let e : 6 * suc begun ≡ 6 + 6 * begun = omega arith in ap (λ (n : ℕ). word / 2 ^ n) e ∙ sym (shr-shr word 6 (6 * begun))
+
+begun_ends : (begun first word : ℕ) → Opens begun word → 0 < first → EndsChunks 5 first (word / 2 ^ (6 * begun)) → EndsChunks 5 (begun + first) word
+begun_ends zero first word opens some ends =
+    let same : first ≡ 0 + first = omega arith in
+    let here : word / 2 ^ (6 * 0) ≡ word = omega arith in
+    subst (λ (k : ℕ). EndsChunks 5 k word) same (subst (EndsChunks 5 first) here ends)
+begun_ends (suc begun) first word opens some ends =
+    let next : suc (begun + first) ≡ suc begun + first = omega arith in
+    let later = begun_ends begun first (word / 2 ^ 6) opens.1 some (subst (EndsChunks 5 first) (behind_next word begun) ends) in
+    subst (λ (k : ℕ). EndsChunks 5 k word) next (one_more (begun + first) word opens.0 (omega (arith, some)) later)
+
+before_end : (count word : ℕ) → EndsChunks 5 (suc count) word → Opens count word
+before_end zero word ends = tt
+before_end (suc count) word ends = (ends.0, before_end count (word / 2 ^ 6) ends.1)
+
+-- numbers that end in chunks behind some that go on, if the first one is not long
+pub begun_reads : (begun k count chunks word p : ℕ) (rest : List Bool) → chunks ≤ 8 → Opens begun word → ((more : ℕ) → more ≤ 8 → Opens more (word / 2 ^ (6 * begun)) → begun + more ≤ 11) → Runs (lasts k (word / 2 ^ (6 * begun))) count (suc chunks) → ReadsRun word count (begun + suc chunks) p rest
+begun_reads begun k count chunks word p rest nine opens near runs =
+    let behind : ℕ = word / 2 ^ (6 * begun) in
+    let f = first_number k behind count chunks runs in
+    let next : f.first ≡ suc (f.first - 1) = omega (arith, f.some) in
+    let goes : Opens (f.first - 1) behind = before_end (f.first - 1) behind (subst (λ (n : ℕ). EndsChunks 5 n behind) next f.ends) in
+    let short : begun + f.first ≤ 12 = omega (arith, near (f.first - 1) (omega (arith, f.chunks_are, nine)) goes, f.some) in
+    let runs_on : Runs (lasts f.more (word / 2 ^ (6 * (begun + f.first)))) f.others f.left = subst (λ (w : ℕ). Runs (lasts f.more w) f.others f.left) (behind_more word begun f.first) f.runs in
+    let later = run_reads f.left f.more (word / 2 ^ (6 * (begun + f.first))) f.others f.left (p + 6 * (begun + f.first)) rest (omega arith) (omega (arith, f.chunks_are, nine)) runs_on in
+    let all = one_before word f.others (begun + f.first) f.left p rest short (begun_ends begun f.first word opens f.some f.ends) later in
+    let whole : begun + suc chunks ≡ begun + f.first + f.left = omega (arith, f.chunks_are) in
+    rw (f.count_is, whole) all
 
 -- numbers at the front of the bits of a word
 pub begins : (word count chunks : ℕ) → Runs (lasts 9 word) count chunks → Begins word count (6 * chunks)

@@ -9,11 +9,12 @@ use Rattle.bit_fields.specs.Buffered.{BufferedBits, beyond}
 use Rattle.bit_fields.specs.Pens.{TakesNumber}
 use Rattle.bit_fields.specs.Placed.{Shows}
 use Rattle.bit_fields.specs.Short.{payload_number}
+use Rattle.bit_fields.specs.SixEnds.{tops}
 use Rattle.bit_fields.proofs.BitLaws.{drop-bits_of}
 use Rattle.bit_fields.proofs.EndMarks.{Marks, behind_first, bit_behind, ends_marked, lowest_gone, split_low}
 use Rattle.bit_fields.proofs.PlacedNumbers.{NumberEnds, few_taken, listed_tops}
 use Rattle.bit_fields.proofs.Placing.{marks_of}
-use Rattle.bit_fields.proofs.SixBitSums.{low_set, lowest_is, tops}
+use Rattle.bit_fields.proofs.SixBitSums.{low_set, lowest_is}
 use Rattle.bit_fields.proofs.SixValues.{six_read}
 
 -- The 1s of a mask are the last bits of the numbers at the low end of a word, and bits begin with the word's bits up to each of them.

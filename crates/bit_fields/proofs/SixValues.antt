@@ -10,10 +10,10 @@ use Rattle.bit_grammar.specs.Bits.{bits_of}
 use Rattle.bit_grammar.specs.Fields.{vbr}
 use Rattle.bit_fields.specs.Buffered.{BufferedBits, Reads, beyond}
 use Rattle.bit_fields.specs.Short.{payload_number}
+use Rattle.bit_fields.specs.SixEnds.{tops}
 use Rattle.bit_fields.proofs.PlacedNumbers.{NumberEnds, listed_tops, number_ends, number_reads}
 use Rattle.bit_fields.proofs.Placing.{or_above}
 use Rattle.bit_fields.proofs.Short.{gathered_cut}
-use Rattle.bit_fields.proofs.SixBitSums.{tops}
 
 -- ---- fields, joined in pairs
 

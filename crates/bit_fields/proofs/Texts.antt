@@ -141,9 +141,6 @@ longer_text full last next at k t is some few =
         subst (λ (j : ℕ). Free j next) (sym none) (free_zeros next k e (omega (arith, len, some)))
     free (b ∷ bytes) e there h = subst (λ (xs : List ℕ). Free at xs) (sym e) (free_more at (b ∷ bytes) (replicate k 0) there (free_from at (b ∷ bytes) there (h (omega arith))))
 
-pub longer_same : (full : List (Vec ℕ)) (last next more : List ℕ) (at : ℕ) → at ≤ 8 * length last → next ≡ last ++ more → text_of full next at ≡ text_of full last at
-longer_same full last next more at there is = ap (λ (s : List Bool). bits_of_chunks full ++ s) (ap (λ (xs : List ℕ). take at (bits_of_bytes xs)) is ∙ take_more_bytes at last more there)
-
 -- the bytes behind those of a full chunk, with zeros behind them
 pub begun_text : (full : List (Vec ℕ)) (last next : List ℕ) (at k : ℕ) → IsText full last at → 8388608 ≤ at → next ≡ drop 1048576 last ++ replicate k 0 → length next ≡ 1081344 → IsText full next (at - 8388608)
 begun_text full last next at k t le is len =
@@ -227,10 +224,6 @@ stored_text full last shown new at after len bits more before start t room len_i
 pub stored_fits : (text start more : List Bool) (limit : ℕ) → text ≡ start ++ more → length start + length more < limit → length text < limit
 stored_fits text start more limit is fits = omega (arith, ap length is, length-append start more, fits)
 
--- what is put after room was made for it
-pub put_behind : (full : List (Vec ℕ)) (old new : List ℕ) (at after bits : ℕ) (more before start : List Bool) → IsText full old at → at + bits + 64 ≤ 8 * length old → Puts more at old after new → text_of full old at ≡ before → before ≡ start → text_of full new after ≡ start ++ more
-put_behind full old new at after bits more before start t room p same is = put_same full old new at after bits more t room p ∙ ap (λ (s : List Bool). s ++ more) (same ∙ is)
-
 -- ---- no bits
 
 pub cleared_text : (old new : List ℕ) → length old ≤ 1081344 → new ≡ set old 0 0 → IsText [] new 0
@@ -244,20 +237,6 @@ cleared_text old new few is = record {
     free : (xs : List ℕ) → new ≡ set xs 0 0 → 0 < length xs → Free 0 new
     free [] e some = absurd (omega (arith, some))
     free (x ∷ xs) e some = record { rest = bits_of_bytes xs; is = ap bits_of_bytes e }
-
-pub empty_text : (full : List (Vec ℕ)) (bytes : List ℕ) → AreFull full → bytes ≡ [] → IsText full bytes 0
-empty_text full bytes are none =
-    let len : length bytes ≡ 0 = ap length none in
-    record { are_full = are; few = omega (arith, len); there = omega arith; holds = λ some. absurd (omega (arith, some, len)) }
-
--- what was lent comes back to an empty last chunk
-pub given_same : (full : List (Vec ℕ)) (old : List ℕ) (was : ℕ) (now more : List Bool) → old ≡ [] → text_of full old was ≡ now → bits_of_chunks full ++ more ≡ now ++ more
-given_same full old was now more none is =
-    ap (λ (s : List Bool). s ++ more) (sym (append-nil (bits_of_chunks full)) ∙ ap (λ (s : List Bool). bits_of_chunks full ++ s) (sym (ap (λ (xs : List ℕ). take was (bits_of_bytes xs)) none ∙ take_none was)) ∙ is)
-  where
-    take_none : (n : ℕ) → take {A = Bool} n [] ≡ []
-    take_none zero = refl
-    take_none (suc n) = refl
 
 -- some of the chunks are gone
 pub fewer_text : (full new : List (Vec ℕ)) (last : List ℕ) (at : ℕ) → IsText full last at → AreFull new → length new ≤ length full → length (text_of full last at) < 18446744073709551616 → IsText new last at × (length (text_of new last at) < 18446744073709551616)

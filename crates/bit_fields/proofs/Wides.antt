@@ -1,9 +1,9 @@
 -- Numbers in units of two bytes with the great ones apart: their laws.
-use Rattle.std.proofs.Common.{◌≡◌, ◌≢◌, ℕ, zero, suc, ◌+◌, ◌*◌, ◌/◌, ◌-◌, ◌<◌, ◌≤◌, ◌⊎◌, List, [], ◌∷◌, ◌++◌, length, take, drop, get_or, slice_get, Bool, true, false, cond, eqb, Some, None, refl, sym, ap, ◌∙◌, inl, inr, arith, add-one, eq-eqb}
+use Rattle.std.proofs.Common.{◌≡◌, ◌≢◌, ℕ, zero, suc, ◌+◌, ◌*◌, ◌/◌, ◌-◌, ◌<◌, ◌≤◌, List, [], ◌∷◌, ◌++◌, length, take, drop, get_or, slice_get, Bool, true, false, cond, eqb, Some, None, refl, sym, ap, ◌∙◌, arith, add-one, eq-eqb}
 use Rattle.std.proofs.Math.Seq.{take-add, take-suc, take-append_seam}
-use Rattle.std.proofs.lemmas.Bool.{cases_lt, ne_eqb}
+use Rattle.std.proofs.lemmas.Bool.{ne_eqb}
 use Rattle.std.proofs.Math.Nat.{div-add-mod}
-use Rattle.std.proofs.lemmas.List.{append-nil, get_or_append_left, get_or-append-add, get_or-take, length-append, length-take, take-append-drop, take-append-le, take-take, take_all}
+use Rattle.std.proofs.lemmas.List.{append-nil, get_or-take, length-append, length-take, take-append-drop, take-append-le, take-take}
 use Rattle.std.proofs.lemmas.Option.{slice_get-get_or, slice_get_past}
 use Rattle.bit_fields.specs.Wide.{marks, numbers_of, AreBefore}
 
@@ -120,15 +120,6 @@ one_great us gs number all = numbers_append us (65535 ∷ []) gs (number ∷ [])
 
 pub counted_longer : (us vs counts : List ℕ) → AreBefore us counts → length (us ++ vs) ≤ 64 * length counts → AreBefore (us ++ vs) counts
 counted_longer us vs counts h le = (le, λ i there. (omega (arith, (h.1 i there).0, length-append us vs), (h.1 i there).1 ∙ ap marks (sym (take-append-le (64 * i) us vs (h.1 i there).0))))
-
-pub counted_more : (us counts : List ℕ) → AreBefore us counts → 64 * length counts ≤ length us → AreBefore us (counts ++ marks us ∷ [])
-counted_more us counts h full = (omega (arith, h.0, length-append counts (marks us ∷ [])), λ i there. go i (cases_lt i (length counts)) (omega (arith, there, length-append counts (marks us ∷ []))))
-  where
-    go : (i : ℕ) → (i < length counts) ⊎ (length counts ≤ i) → i ≤ length counts → (64 * i ≤ length us) × (get_or (counts ++ marks us ∷ []) i 0 ≡ marks (take (64 * i) us))
-    go i (inl lt) le = ((h.1 i lt).0, get_or_append_left counts (marks us ∷ []) 0 i lt ∙ (h.1 i lt).1)
-    go i (inr ge) le =
-        let e : i ≡ length counts + 0 = omega (arith, ge, le) in
-        (omega (arith, le, full), ap (λ (k : ℕ). get_or (counts ++ marks us ∷ []) k 0) e ∙ get_or-append-add counts (marks us ∷ []) 0 0 ∙ ap marks (sym (take_all (64 * i) us (omega (arith, h.0, ge)))))
 
 pub counted_first : (n m : ℕ) (us counts : List ℕ) → AreBefore us counts → n ≤ length us → m ≡ n / 64 + 1 → AreBefore (take n us) (take m counts)
 counted_first n m us counts h le is =

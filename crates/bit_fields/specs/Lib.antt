@@ -16,6 +16,7 @@ pub mod Packed
 pub mod Wide
 pub mod Expected
 pub mod SixBits
+pub mod SixEnds
 pub mod Placed
 pub mod PlacedView
 pub mod Pens

@@ -3,15 +3,22 @@
 //! The top bit of a chunk says that another one follows. A constant has the same six bits for each of the nine chunks, two octal
 //! digits a chunk. Sums and products are of all chunks at once: no chunk's sum reaches 64, so none carries into the next one.
 
-ghost use Rattle.std.specs.Prelude.{◌≡◌, ◌*◌, ◌-◌, ◌<◌, ◌≤◌, true, IfSome};
-ghost use Rattle.std.specs.Int.{w64, bit_at, bit_not};
+ghost use Rattle.std.specs.Prelude.{◌≡◌, ◌+◌, ◌*◌, ◌-◌, ◌<◌, ◌≤◌, ◌⊎◌, bit_and, count_ones, true, false, IfNone, IfSome};
+ghost use Rattle.std.specs.Int.{w64, bit_at, bit_not, leading_zeros, trailing_zeros};
 ghost use Rattle.bit_fields.specs.SixBits.{Begins, NoneFollows, Shortest};
+ghost use Rattle.bit_fields.specs.SixEnds.{EndsWith, tops};
 
 /// The lowest bit of each chunk.
 const ONES: u64 = 0o01_01_01_01_01_01_01_01_01;
 
 /// The top bit of each chunk.
 pub(crate) const TOPS: u64 = 0o40_40_40_40_40_40_40_40_40;
+
+/// The top bits of the first eight chunks.
+pub(crate) const EIGHT_TOPS: u64 = 0o40_40_40_40_40_40_40_40;
+
+/// The top bits of the first four chunks.
+pub(crate) const FOUR_TOPS: u64 = 0o40_40_40_40;
 
 /// The other bits of each chunk, its payload.
 const PAYLOADS: u64 = 0o37_37_37_37_37_37_37_37_37;
@@ -52,6 +59,8 @@ pub(crate) fn end_of(ends: u64, count: u64) -> Option<u32>
     requires some { 0 < count }
     requires few { count ≤ 32 }
     ensures reads { IfSome result (λ bits. Begins (bit_not w64 ends) count bits) }
+    ensures ends { IfSome result (λ bits. EndsWith (bit_not w64 ends) count bits) }
+    ensures none { IfNone result (count_ones (bit_and ends (tops 9)) < count) }
     ensures some { IfSome result (λ bits. 0 < bits) }
     ensures most { IfSome result (λ bits. bits ≤ 54) }
     ensures last { IfSome result (λ bits. bit_at ends (bits - 1) ≡ 1) }
@@ -63,6 +72,17 @@ pub(crate) fn end_of(ends: u64, count: u64) -> Option<u32>
         return None;
     }
     Some(reached.trailing_zeros() + 1)
+}
+
+/// Whether a number may be long that is open behind eight chunks, by the ends of numbers in these and in those that come next: it has
+/// at least ten chunks then. If not, it has at most twelve.
+#[inline(always)]
+pub(crate) fn goes_on(before: u64, ends: u64) -> bool
+    ensures { result ≡ false → (bit_and ends (tops 4) ≡ 0 → ⊥)
+        ⊎ (leading_zeros w64 before + trailing_zeros w64 (bit_and ends (tops 9)) ≤ 69) }
+{
+    // (leading zeros - 16) / 6 chunks are open, and (trailing zeros + 1) / 6 more go up to the next end
+    ends & FOUR_TOPS == 0 && before.leading_zeros() + (ends & TOPS).trailing_zeros() > 69
 }
 
 /// Whether each number that the first `bits` bits spell is in its shortest spelling: no number has a last chunk of zeros after

@@ -1,8 +1,8 @@
 //! Placed bits: where they are, loads of them, and how long numbers in them are.
 
-ghost use Rattle.std.specs.Prelude.{ℕ, ◌≡◌, ◌+◌, ◌-◌, ◌*◌, ◌^◌, ◌<◌, ◌≤◌, length, take, true, IfSome};
+ghost use Rattle.std.specs.Prelude.{ℕ, ◌≡◌, ◌+◌, ◌-◌, ◌*◌, ◌^◌, ◌<◌, ◌≤◌, length, take, drop, true, IfSome};
 ghost use Rattle.std.specs.Int.{w64, bit_not};
-ghost use Rattle.bit_grammar.specs.Bits.{bits_of};
+ghost use Rattle.bit_grammar.specs.Bits.{bits_of, bits_of_bytes};
 ghost use Rattle.bit_grammar.specs.Fields.{fixed, vbr};
 ghost use Rattle.bit_fields.specs.Buffered.{Reads, beyond};
 ghost use Rattle.bit_fields.specs.BufferedParts.{bits_of_parts, AreParts};
@@ -11,7 +11,7 @@ ghost use Rattle.bit_fields.specs.PlacedView.{loaded, placed};
 
 use crate::buffered::{Buffered, BufferedParts};
 use crate::placed::{ChunkTops, LoadedBits, PlacedBits};
-use crate::six_bits::{TOPS, numbers_in};
+use crate::six_bits::{EIGHT_TOPS, TOPS, end_of, goes_on};
 use crate::width::ChunkWidth;
 use crate::word::eight_of;
 
@@ -138,11 +138,6 @@ impl<'a> PlacedBits<'a> {
         ensures has { IfSome result (λ len. HasNumbers n 1 (placed self.entry) len) }
         ensures some { IfSome result (λ len. 0 < len) }
     {
-        if n == 6 {
-            if let Some(len) = self.long_six() {
-                return Some(len);
-            }
-        }
         let (_, len) = self.far(n);
         if len == 0 {
             return None;
@@ -175,6 +170,18 @@ impl<'a> PlacedBits<'a> {
             return Some(78);
         }
         None
+    }
+
+    /// The length of a number in chunks of six bits that is long, if it is there.
+    #[inline(always)]
+    fn any_six(self) -> Option<u64>
+        ensures has { IfSome result (λ len. HasNumbers 6 1 (placed self.entry) len) }
+        ensures some { IfSome result (λ len. 0 < len) }
+    {
+        if let Some(len) = self.long_six() {
+            return Some(len);
+        }
+        self.long(6)
     }
 
     /// The length of this many numbers in chunks of six bits, if they are there.
@@ -210,7 +217,7 @@ impl<'a> PlacedBits<'a> {
             if !long.has(64) {
                 return None;
             }
-            at += long.long(6)?;
+            at += long.any_six()?;
             (at, left) = pass_sixes(self.bytes, at, left - 1);
         }
         Some(at - self.at)
@@ -242,8 +249,21 @@ impl<'a> PlacedBits<'a> {
     }
 }
 
-/// Passes over numbers in chunks of six bits, from a place in bytes on, as long as they are not long and 64 bits are there: the
+/// The complement of the 57 bits of bytes from a bit of a byte on.
+#[inline(always)]
+fn ends_from(bytes: &[u8], place: usize, shift: u64) -> u64
+    requires there { place + 8 ≤ length bytes.now }
+    requires bit { shift < 8 }
+    ensures { (n : ℕ) → n ≤ 57
+        → bits_of n (bit_not w64 result) ≡ take n (drop (8 * place + shift) (bits_of_bytes bytes.now)) }
+{
+    !eight_of(&bytes[place..]) >> shift
+}
+
+/// Passes over numbers in chunks of six bits, from a place in bytes on, as long as they are not long and eight bytes are there: the
 /// place after them, and how many of so many are left. What it takes and gives back fits into registers.
+///
+/// Each load is eight chunks behind the last one, wherever numbers end, so that it need not wait for that one.
 #[inline(never)]
 fn pass_sixes(bytes: &[u8], from: u64, count: u64) -> (u64, u64)
     requires there { from ≤ 8 * length bytes.now }
@@ -254,23 +274,28 @@ fn pass_sixes(bytes: &[u8], from: u64, count: u64) -> (u64, u64)
     ensures has { (start : ℕ) → HasNumbers 6 (count - result.1) (bits_at start from bytes.now)
         (result.0 - from) }
 {
-    let mut at = from;
+    let shift = from & 7;
+    let mut place = (from >> 3) as usize;
     let mut left = count;
-    while left > 0 {
-        let bits = PlacedBits {
-            bytes,
-            start: 0,
-            at,
-        };
-        if !bits.has(64) {
-            return (at, left);
+    // the ends of numbers in the eight chunks before
+    let mut before = EIGHT_TOPS;
+    while left > 0 && bytes.len() - place >= 8 {
+        let ends = ends_from(bytes, place, shift);
+        if goes_on(before, ends) {
+            break;
         }
-        let (some, len) = numbers_in(!bits.ends(), left.min(32));
-        if some == 0 {
-            return (at, left);
+        let eight = ends & EIGHT_TOPS;
+        let some = u64::from(eight.count_ones());
+        if some >= left {
+            let Some(len) = end_of(ends, left) else {
+                unreachable!();
+            };
+            return (8 * place as u64 + shift + u64::from(len), 0);
         }
         left -= some;
-        at += u64::from(len);
+        before = eight;
+        place += 6;
     }
-    (at, left)
+    let open = u64::from(before.leading_zeros()) - 16;
+    (8 * place as u64 + shift - open, left)
 }

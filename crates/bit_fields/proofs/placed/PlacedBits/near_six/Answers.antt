@@ -3,9 +3,9 @@ use Rattle.std.specs.Int.{w64, bit_not, trailing_zeros}
 use Rattle.std.proofs.lemmas.Nat.{one_shl, pow_pos}
 use Rattle.bit_fields.specs.Buffered.{beyond}
 use Rattle.bit_fields.specs.PlacedView.{placed}
+use Rattle.bit_fields.specs.SixEnds.{tops}
 use Rattle.bit_fields.proofs.PlacedNumbers.{few_taken}
 use Rattle.bit_fields.proofs.Placing.{six_one}
-use Rattle.bit_fields.proofs.SixBitSums.{tops}
 use Rattle.bit_fields.proofs.SixValues.{cut_joined, six_ends, six_few, six_read}
 use Rattle.bit_fields.proofs.placed.PlacedBits.near_six.Goals as goal
 

@@ -1,6 +1,8 @@
 use Rattle.std.proofs.Common.{◌≡◌, ℕ, ◌+◌, ◌-◌, ◌≤◌, length, max, subst, arith}
+use Rattle.bit_grammar.specs.Normal.{values_bits}
 use Rattle.bit_fields.specs.Pens.{WritesSixes}
 use Rattle.bit_fields.specs.Placed.{bits_at}
+use Rattle.bit_fields.proofs.Pens.{keeps_then}
 use Rattle.bit_fields.proofs.Placing.{length_at}
 use Rattle.bit_fields.proofs.WrittenSixes.{sixes_begun, sixes_keep, sixes_load, sixes_moved, sixes_room, sixes_then, some_place}
 use Rattle.bit_fields.proofs.placed.numbers.write_sixes.Goals as goal
@@ -49,6 +51,12 @@ write_each-requires-clause-room c =
     let l = c.loop-left in
     let room = sixes_room (c.args.count - l.left) c.args.first l.pen (bits_at 0 c.args.place c.args.from.now) (bits_at 0 l.at c.args.from.now) c.args.bytes.now l.bytes l.invariant.writes in
     omega (arith, room.1, room.2)
+
+pub returns-in-Some-clause-none : goal.returns-in-Some-clause-none
+returns-in-Some-clause-none c = λ e.
+    let l = c.loop-left in
+    let w = l.invariant.writes in
+    keeps_then (values_bits w.values) c.args.first l.pen c.args.bytes.now l.bytes c.write_each.new.bytes w.puts (c.write_each.ensures.none e)
 
 pub returns-in-Some-clause-writes : goal.returns-in-Some-clause-writes
 returns-in-Some-clause-writes c = λ some start. (

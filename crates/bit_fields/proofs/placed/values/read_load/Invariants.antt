@@ -3,7 +3,7 @@ use Rattle.bit_fields.specs.Buffered.{BufferedBits}
 use Rattle.bit_fields.specs.Pens.{ReadsSixes}
 use Rattle.bit_fields.specs.Placed.{bits_at}
 use Rattle.bit_fields.specs.PlacedView.{loaded}
-use Rattle.bit_fields.proofs.SixBitSums.{tops}
+use Rattle.bit_fields.specs.SixEnds.{tops}
 use Rattle.bit_fields.proofs.SixLoads.{Loads}
 use Rattle.bit_fields.proofs.placed.values.read_load.Given as goal
 
