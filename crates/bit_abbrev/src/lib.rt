@@ -25,6 +25,7 @@ mod in_force;
 mod info;
 mod laws;
 mod layout;
+mod op_row;
 mod op_taker;
 mod plan;
 mod planning;
@@ -32,6 +33,7 @@ mod ready;
 mod record;
 mod runs;
 mod scalars;
+mod short_op;
 mod tail;
 mod widths;
 

@@ -3,7 +3,7 @@ use Rattle.bit_grammar.specs.declared.op.Op.{Op}
 use Rattle.bit_grammar.specs.declared.op.Place.TheVariants.{First}
 use Rattle.bit_grammar.specs.Definition.{operands}
 use Rattle.bit_fields.specs.Reader.{Took}
-use Rattle.bit_abbrev.proofs.definition.read_ops.Goals as goal
+use Rattle.bit_abbrev.proofs.definition.read_many.Goals as goal
 
 pub returns-in-Ok : goal.returns-in-Ok
 returns-in-Ok g c =
