@@ -228,7 +228,7 @@ fn read_many<S: Source>(
         shrunk(gathered)
     };
     match ops {
-        Ok(ops) => Ok(Abbrev::from_definable(ops)),
+        Ok(ops) => Ok(Abbrev::from_read(ops, shapes)),
         Err(_) => Err(reader.fail(Fault::Memory)),
     }
 }
@@ -248,7 +248,7 @@ fn read_row<S: Source>(
     let mut row = OpRow::new();
     read_operands(reader, shapes, count, &mut row)?;
     match Ops::from_slice(alloc, row.as_slice()) {
-        Ok(ops) => Ok(Abbrev::from_definable(ops)),
+        Ok(ops) => Ok(Abbrev::from_read(ops, shapes)),
         Err(_) => Err(reader.fail(Fault::Memory)),
     }
 }
