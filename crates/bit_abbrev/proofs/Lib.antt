@@ -10,6 +10,7 @@ pub mod Adding
 pub mod Taking
 pub mod Operands
 pub mod Shapes
+pub mod ShortOps
 pub mod Layouts
 pub mod Records
 mod Several

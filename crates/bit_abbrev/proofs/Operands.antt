@@ -5,6 +5,7 @@ use Rattle.std.proofs.lemmas.Bool.{lt-ltb, ne_eqb}
 use Rattle.std.specs.Prelude.{nat_lt}
 use Rattle.std.specs.List.{AllByRecursion}
 use Rattle.bit_grammar.specs.declared.shapes.Shapes.{Shapes}
+use Rattle.bit_grammar.specs.declared.shapes.Shapes.TheVariants.{AtDefinition}
 use Rattle.bit_grammar.specs.declared.op.Op.{Op}
 use Rattle.bit_grammar.specs.declared.op.Place.{Place}
 use Rattle.bit_grammar.specs.declared.op.Place.TheVariants.{First as first}
@@ -14,8 +15,9 @@ use Rattle.bit_grammar.specs.declared.op.Kind.TheVariants.{Literal as literal, F
 use Rattle.bit_grammar.specs.declared.reason.Reason.TheVariants.{AbbrevEmpty, AbbrevShape, FieldWidth}
 use Rattle.bit_grammar.specs.Grammar.{Grammar, at, gives, position, choose, test, ◌>>=◌, ◌>>◌, reading}
 use Rattle.bit_grammar.specs.Fields.{fixed, vbr}
-use Rattle.bit_grammar.specs.Definition.{encoding, fits, passes, fixed_lawful, vbr_lawful, kind, valued, operand, place_after, operands, definition}
+use Rattle.bit_grammar.specs.Definition.{encoding, fits, passes, fixed_lawful, vbr_lawful, kind, valued, operand, place_after, operands, definition, has_shape}
 use Rattle.bit_grammar.specs.FormatDefinition.{HasLawfulValue, Definable}
+use Rattle.bit_grammar.proofs.Words.Definitions.{PassFrom, operands_are, order_passed}
 use Rattle.bit_fields.specs.declared.fault.Fault.{Fault}
 use Rattle.bit_fields.specs.declared.fault.Fault.TheVariants.{Memory}
 use Rattle.bit_abbrev.specs.Defining.{AddsRead, TakesCount}
@@ -185,6 +187,11 @@ is_done shapes count a done place b ops most h =
 
 pub all_definable : (shapes : Shapes) (count : ℕ) (a : Reader) (done : ℕ) (place : Place) (b : Reader) (ops : List Op) → 0 < count → count ≤ done → Defines shapes count a done place b ops → Definable ops
 all_definable shapes count a done place b ops some most h = record { some = omega (arith, some, most, h.length_is); values = h.values }
+
+-- operands that were read are in a lawful order if that is judged at the definition
+pub order_judged : (shapes : Shapes) (count : ℕ) (a : Reader) (ops : List Op) (b : Reader) → Took (operands shapes count first) a ops b → shapes ≡ AtDefinition → has_shape ops ≡ true
+order_judged shapes count a ops b t is =
+    order_passed first ops (subst (λ (s : Shapes). PassFrom s first ops) is (operands_are shapes count first a.position t.spells.0 ops t.spells.1).1)
 
 -- ---- adding what was read
 

@@ -11,5 +11,6 @@ pub mod Operands
 pub mod Plans
 pub mod Ready
 pub mod Scalars
+pub mod ShortOps
 pub mod Table
 pub mod Values

@@ -2,6 +2,7 @@
 
 ghost use Rattle.std.specs.Prelude.{◌≡◌, ◌≤◌, ◌↔◌, true, length, IsOk, IfOk, IfErr, IfSome, IfNone};
 ghost use Rattle.bit_grammar.specs.Definition.{fits, place_after, kind_of, has_shape};
+ghost use Rattle.bit_grammar.specs.declared.shapes.Shapes.TheVariants.{AtDefinition};
 ghost use Rattle.bit_grammar.specs.FormatDefinition.{Definable, Lawful};
 ghost use Rattle.bit_abbrev.specs.Operands.{HasTail};
 ghost use Rattle.bit_abbrev.specs.Layouts.{HasLayout};
@@ -12,7 +13,7 @@ use crate::layout::{Layout, layout_of};
 use crate::plan::Plan;
 use crate::tail::{Tail, tail_of};
 use crate::widths::{is_fixed_width, is_vbr_width};
-use bit_grammar::{Kind, Op, Place, Reason};
+use bit_grammar::{Kind, Op, Place, Reason, Shapes};
 use smallvec::SmallVec;
 use std::alloc::{AllocError, Global};
 use std::fmt;
@@ -179,12 +180,13 @@ impl Abbrev {
         }
     }
 
-    /// The abbreviation with these operands.
-    pub(crate) fn from_definable(ops: Ops) -> Abbrev
-        requires { Definable ops.items }
+    /// The abbreviation with these operands, of which it is known whether they are in a lawful order.
+    #[inline(always)]
+    fn of_shape(ops: Ops, usable: bool) -> Abbrev
+        requires definable { Definable ops.items }
+        requires usable { usable ≡ has_shape ops.items }
         ensures { result ≡ ops.items }
     {
-        let usable = has_shape(ops.as_slice());
         let tail = tail_of(ops.as_slice());
         let layout = layout_of(ops.as_slice(), usable, tail);
         Abbrev {
@@ -194,6 +196,29 @@ impl Abbrev {
             layout,
             plan: Plan::odd(),
         }
+    }
+
+    /// The abbreviation with these operands.
+    pub(crate) fn from_definable(ops: Ops) -> Abbrev
+        requires { Definable ops.items }
+        ensures { result ≡ ops.items }
+    {
+        let usable = has_shape(ops.as_slice());
+        Abbrev::of_shape(ops, usable)
+    }
+
+    /// The abbreviation with operands that were read, whose order was judged where `shapes` says.
+    #[inline(always)]
+    pub(crate) fn from_read(ops: Ops, shapes: Shapes) -> Abbrev
+        requires definable { Definable ops.items }
+        requires order { shapes ≡ AtDefinition → has_shape ops.items ≡ true }
+        ensures { result ≡ ops.items }
+    {
+        let usable = match shapes {
+            Shapes::AtDefinition => true,
+            Shapes::AtUse => has_shape(ops.as_slice()),
+        };
+        Abbrev::of_shape(ops, usable)
     }
 
     /// The operands.

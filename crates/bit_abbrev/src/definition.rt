@@ -9,7 +9,9 @@ ghost use Rattle.bit_fields.specs.Reader.{Takes, IsOnly, told_by};
 ghost use Rattle.bit_abbrev.specs.Defining.{AddsOps, TakesCount};
 
 use crate::abbrev::{Abbrev, Ops, fits, place_after};
+use crate::op_row::{OpRow, ROW};
 use crate::op_taker::OpTaker;
+use crate::short_op::short_op;
 use crate::widths::{is_fixed_width, is_vbr_width};
 use bit_fields::{BitReader, Fault, Source};
 use bit_grammar::{Kind, Op, Place, Reason, Shapes};
@@ -66,7 +68,7 @@ fn read_value<U, S: Source>(reader: &mut BitReader<S>, kind: Kind) -> Result<Op,
 }
 
 /// Whether the shape of an operand passes where it is defined: if shapes are judged at their use, it always does.
-fn passes(shapes: Shapes, fits: bool) -> bool
+pub(crate) fn passes(shapes: Shapes, fits: bool) -> bool
     ensures { result ≡ passes shapes fits }
 {
     match shapes {
@@ -75,9 +77,11 @@ fn passes(shapes: Shapes, fits: bool) -> bool
     }
 }
 
-/// Reads an operand at a place, with `after` operands after it.
+/// Reads an operand at a place, with `after` operands after it, field by field.
 #[tactic(auto, unfolding(bit_grammar::specs::Definition::operand))]
-fn read_operand<U, S: Source>(
+#[cold]
+#[inline(never)]
+fn read_fields<U, S: Source>(
     reader: &mut BitReader<S>,
     shapes: Shapes,
     place: Place,
@@ -93,7 +97,28 @@ fn read_operand<U, S: Source>(
     read_value::<U, S>(reader, kind)
 }
 
-/// Operands while they are read. Up to eight need no allocation.
+/// Reads an operand at a place, with `after` operands after it. One of few bits that the reader holds is read at once: its fields
+/// would ask the source for nothing either.
+#[inline(always)]
+fn read_operand<U, S: Source>(
+    reader: &mut BitReader<S>,
+    shapes: Shapes,
+    place: Place,
+    after: u64,
+) -> Result<Op, Fault>
+    ensures takes { Takes (operand shapes place after) reader.old result reader.new }
+    ensures lawful { IfOk result HasLawfulValue }
+{
+    if let Some(bits) = reader.peek(9) {
+        if let Some(short) = short_op(bits, shapes, place, after) {
+            reader.fixed(short.bits)?;
+            return Ok(short.op);
+        }
+    }
+    read_fields::<U, S>(reader, shapes, place, after)
+}
+
+/// Many operands while they are read.
 type Gathered = SmallVec<Op, 8>;
 
 /// How many operands are copied at most: a list that is made smaller leaves gaps in memory, and a copy of a long one costs as much
@@ -184,8 +209,9 @@ fn read_gathered<S: Source>(
 }
 
 /// Reads the operands of a definition, after their number.
-#[inline(always)]
-pub fn read_ops<S: Source>(
+#[cold]
+#[inline(never)]
+fn read_many<S: Source>(
     alloc: Global,
     reader: &mut BitReader<S>,
     shapes: Shapes,
@@ -202,9 +228,47 @@ pub fn read_ops<S: Source>(
         shrunk(gathered)
     };
     match ops {
-        Ok(ops) => Ok(Abbrev::from_definable(ops)),
+        Ok(ops) => Ok(Abbrev::from_read(ops, shapes)),
         Err(_) => Err(reader.fail(Fault::Memory)),
     }
+}
+
+/// Reads the operands of a definition, of which a row has room for all.
+#[inline(always)]
+fn read_row<S: Source>(
+    alloc: Global,
+    reader: &mut BitReader<S>,
+    shapes: Shapes,
+    count: u64,
+) -> Result<Abbrev, Fault>
+    requires some { 0 < count }
+    requires live { reader.old.live ≡ true }
+    ensures { Takes (operands shapes count First) reader.old result reader.new }
+{
+    let mut row = OpRow::new();
+    read_operands(reader, shapes, count, &mut row)?;
+    match Ops::from_slice(alloc, row.as_slice()) {
+        Ok(ops) => Ok(Abbrev::from_read(ops, shapes)),
+        Err(_) => Err(reader.fail(Fault::Memory)),
+    }
+}
+
+/// Reads the operands of a definition, after their number.
+#[inline(always)]
+pub fn read_ops<S: Source>(
+    alloc: Global,
+    reader: &mut BitReader<S>,
+    shapes: Shapes,
+    count: u64,
+) -> Result<Abbrev, Fault>
+    requires some { 0 < count }
+    requires live { reader.old.live ≡ true }
+    ensures { Takes (operands shapes count First) reader.old result reader.new }
+{
+    if count > ROW as u64 {
+        return read_many(alloc, reader, shapes, count);
+    }
+    read_row(alloc, reader, shapes, count)
 }
 
 /// Reads the number of operands, and the operands.

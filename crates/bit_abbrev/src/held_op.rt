@@ -82,6 +82,7 @@ fn small(op: Op) -> HeldOp
 }
 
 /// Adds an operand at the end of a list. If there is no memory for it, nothing changes.
+#[inline(always)]
 pub(crate) fn push(held: &mut Vec<HeldOp>, op: Op) -> Result<(), AllocError>
     ensures ok { OnOk result (Holds held.old.items held.new.items (op ∷ [])) }
     ensures err { OnErr result (held.new.items ≡ held.old.items) }

@@ -25,12 +25,14 @@ mod in_force;
 mod info;
 mod laws;
 mod layout;
+mod op_row;
 mod op_taker;
 mod plan;
 mod ready;
 mod record;
 mod runs;
 mod scalars;
+mod short_op;
 mod tail;
 mod widths;
 

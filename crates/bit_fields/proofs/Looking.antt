@@ -1,9 +1,9 @@
 -- A source that is looked at, and the buffered parts that then follow.
-use Rattle.std.proofs.Common.{◌≡◌, ℕ, ◌+◌, ◌-◌, min, Bool, true, List, [], ◌++◌, length, take, drop, Option, Some, None, Ok, Bor, refl, sym, ap, ◌∙◌, subst, arith, append_assoc, take-take}
+use Rattle.std.proofs.Common.{◌≡◌, ℕ, ◌+◌, ◌-◌, ◌≤◌, min, Bool, true, List, [], ◌++◌, length, take, drop, Option, Some, None, Ok, Bor, refl, sym, ap, ◌∙◌, subst, arith, append_assoc, take-take}
 use Rattle.std.specs.Prelude.{IsSome}
-use Rattle.std.proofs.lemmas.List.{take-append-drop}
+use Rattle.std.proofs.lemmas.List.{take-append-drop, length-take-le}
 use Rattle.std.proofs.lemmas.List.{append-nil}
-use Rattle.bit_grammar.specs.Bits.{bits_of, bits_of_bytes}
+use Rattle.bit_grammar.specs.Bits.{number, bits_of, bits_of_bytes}
 use Rattle.bit_fields.specs.Devices.{Incoming, Begins, Looked, known_bytes}
 use Rattle.bit_fields.specs.Inflow.{Flow, stop_of, LooksOn, LiesBehind}
 use Rattle.bit_fields.specs.Inside.{reader_of}
@@ -11,7 +11,7 @@ use Rattle.bit_fields.specs.Reader.{Reader, Extent}
 use Rattle.bit_fields.specs.Short.{TookNothing}
 use Rattle.bit_fields.specs.Buffered.{Sees}
 use Rattle.bit_fields.specs.BufferedParts.{bits_of_parts}
-use Rattle.bit_fields.proofs.BitLaws.{bits_of_bytes-append}
+use Rattle.bit_fields.proofs.BitLaws.{bits_of-number, bits_of_bytes-append}
 use Rattle.bit_fields.proofs.Composing.{spells_nothing}
 use Rattle.bit_fields.proofs.InflowLaws.{kept}
 
@@ -67,3 +67,13 @@ sees_behind live p f now word held bytes alive now_is is behind = rw (← now_is
 pub sees_window : (live : Bool) (p : ℕ) (f : Flow) (now : Reader) (word held : ℕ) (bytes : Bor (List ℕ)) → live ≡ true → reader_of live p f ≡ now → bits_of held word ≡ f.window → bytes.now ≡ [] → Sees now (bits_of_parts (record { word = word; held = held; bytes = bytes; position = p }))
 sees_window live p f now word held bytes alive now_is is none =
     sees_behind live p f now word held bytes alive now_is is (λ k. (bits_of_bytes (take (stop_of f - f.loaded) (known_bytes f.incoming.to_come)), ap (λ (s : List Bool). s ++ bits_of_bytes (take (stop_of f - f.loaded) (known_bytes f.incoming.to_come))) (sym (ap (λ (b : List ℕ). f.window ++ bits_of_bytes b) none ∙ append-nil f.window))))
+
+-- the first bits of the window
+pub sees_front : (live : Bool) (p n value : ℕ) (f : Flow) (now : Reader) → live ≡ true → reader_of live p f ≡ now → n ≤ length f.window → value ≡ number (take n f.window) → Sees now (record { position = now.position; bits = bits_of n value })
+sees_front live p n value f now alive now_is there is =
+    let more : List Bool = bits_of_bytes (take (stop_of f - f.loaded) (known_bytes f.incoming.to_come)) in
+    let front : bits_of n value ≡ take n f.window =
+    ap (bits_of n) is ∙ ap (λ (m : ℕ). bits_of m (number (take n f.window))) (sym (length-take-le n f.window there)) ∙ bits_of-number (take n f.window) in
+    let whole : f.window ++ more ≡ bits_of n value ++ (drop n f.window ++ more) =
+    ap (λ (s : List Bool). s ++ more) (sym (take-append-drop n f.window)) ∙ append_assoc (take n f.window) (drop n f.window) more ∙ ap (λ (s : List Bool). s ++ (drop n f.window ++ more)) (sym front) in
+    rw (← now_is, alive) (record { live = refl; position = refl; front = λ k. (drop n f.window ++ more, whole) })

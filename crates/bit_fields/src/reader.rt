@@ -1,7 +1,9 @@
-ghost use Rattle.std.specs.Prelude.{◌≡◌, ◌+◌, ◌*◌, ◌-◌, ◌<◌, ◌≤◌, ◌^◌, ◌%◌, length, true, false, take, OnErr, OnOk, IfOk, IfErr, MatchOption};
+ghost use Rattle.std.specs.Prelude.{◌≡◌, ◌+◌, ◌*◌, ◌-◌, ◌<◌, ◌≤◌, ◌^◌, ◌%◌, length, true, false, take, OnErr, OnOk, IfOk, IfErr, IfSome, MatchOption};
 ghost use Rattle.bit_grammar.specs.Fields.{fixed, vbr, align32, chunks, zeros};
 ghost use Rattle.bit_grammar.specs.Terms.{chunk_limit};
 ghost use Rattle.bit_grammar.specs.Grammar.{at, test};
+ghost use Rattle.bit_grammar.specs.Bits.{bits_of};
+ghost use Rattle.bit_fields.specs.Buffered.{Sees};
 ghost use Rattle.bit_grammar.specs.Input.{version, offset, wrapper, any_bits, inner_magic};
 ghost use Rattle.bit_fields.specs.Reader.{Extent, Takes, Took, Why, IsOnly, NeedsNoMemory, within, told_by, failed_reader, stopped_at};
 ghost use Rattle.bit_fields.specs.Short.{TookNothing};
@@ -288,6 +290,20 @@ impl<S: Source> BitReader<S> {
         let value = self.inflow.take(n);
         self.position += u64::from(n);
         Ok(value)
+    }
+
+    /// The next n bits as a number, n from 1 to 32, if the reader holds them already: it asks its source for nothing.
+    #[inline(always)]
+    pub fn peek(&self, n: u32) -> Option<u64>
+        requires some { 0 < n }
+        requires few { n ≤ 32 }
+        ensures { IfSome result (λ value. Sees self.now
+            (record { position = self.now.position; bits = bits_of n value })) }
+    {
+        if self.inflow.bits_held() < n {
+            return None;
+        }
+        Some(self.inflow.peek(n))
     }
 
     /// Reads a number of n bits, n from 1 to 32, the lowest bit first. Source: "Fixed Width Integers".

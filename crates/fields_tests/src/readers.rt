@@ -608,6 +608,21 @@ fn characters(rt: HostRuntime) {
     assert!(rt; told == CHARACTERS);
 }
 
+/// What is held after three bits, in five, thirteen and fourteen bits, and the position.
+fn peeks_of<S: Source>(reader: &mut BitReader<S>) -> (Result<u64, Fault>, [Option<u64>; 3], u64) {
+    let bits = reader.fixed(3);
+    let told = [reader.peek(5), reader.peek(13), reader.peek(14)];
+    (bits, told, reader.position())
+}
+
+#[test]
+fn peeks(rt: HostRuntime) {
+    let input = after_magic(&[0xAD, 0x01]);
+    let mut reader = reader_of(&rt, SliceSource::new(&input[..6]), Limits::usual());
+    let told = peeks_of(&mut reader);
+    assert!(rt; told == (Ok(5), [Some(21), Some(53), None], 35));
+}
+
 /// Three bits, padding twice, a byte, and padding twice; and the positions after the first padding and before the last.
 fn paddings_of<S: Source>(reader: &mut BitReader<S>) -> ([Result<u64, Fault>; 6], [u64; 2]) {
     let bits = reader.fixed(3);
