@@ -21,3 +21,4 @@ pub mod Singles
 pub mod FewValues
 pub mod Buffered
 pub mod Missing
+pub mod HeldRecords

@@ -84,11 +84,6 @@ no_entry room first id definitions a fault b other none why =
         let some : None ≡ Some (get_or definitions (id - 4) []) = sym none ∙ slice_get-get_or definitions (id - 4) [] (ltb-true (id - 4) (length definitions) is) in
         absurd cc
 
--- a definition that is ready is the one in force
-pub ready_is : {M : Type 0} (faults : M → Fault → Type 0) (definitions : List (List Op)) (id : ℕ) (ready : Option (Bor Abbrev)) → is_some ready ≡ true → IfSome ready (λ one. slice_get definitions (id - 4) ≡ Some one.now) → IsDefinition faults definitions id (option_copied ready)
-ready_is faults definitions id None some is = absurd cc
-ready_is faults definitions id (Some one) some is = is
-
 -- where a miss gives no reason, nothing is said if none is ready
 pub ready_or_missed : (M : Type 0) (definitions : List (List Op)) (id : ℕ) (ready : Option (Bor Abbrev)) → IfSome ready (λ one. slice_get definitions (id - 4) ≡ Some one.now) → IsDefinition {M = M} (λ miss fault. ⊥) definitions id (option_copied ready)
 ready_or_missed M definitions id None is = λ miss fault means. absurd means
