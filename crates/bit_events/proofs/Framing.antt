@@ -18,15 +18,14 @@ use Rattle.bit_grammar.specs.Forest.{set_bid, names_block}
 use Rattle.bit_grammar.specs.Blocks.{Handed, Scope, defined, may_define, define, by_definition, entry, describe, record_after}
 use Rattle.bit_grammar.specs.Machine.{scope_of}
 use Rattle.bit_fields.specs.declared.fault.Fault.{Fault}
-use Rattle.bit_fields.specs.declared.fault.Fault.TheVariants.{Memory}
-use Rattle.bit_fields.specs.Reader.{Reader, Took, Why, Takes, told_by, failed_reader}
+use Rattle.bit_fields.specs.Reader.{Reader, Took, Why, Takes, told_by}
 use Rattle.bit_fields.proofs.Composing.{took_then, fault_then, took_nothing, first_chosen, second_chosen, holds_then, same_reading}
 use Rattle.bit_grammar.specs.Definition.{definition, has_shape}
 use Rattle.bit_abbrev.specs.Bits.{Answers}
 use Rattle.bit_abbrev.specs.Ready.{InfoMade, table_of}
 use Rattle.bit_abbrev.specs.declared.abbrev.Abbrev.{Abbrev}
 use Rattle.bit_abbrev.specs.Values.{AddsWithin, Gains}
-use Rattle.bit_events.proofs.Telling.{told, why, andThen, breaks, ends, here, without_memory}
+use Rattle.bit_events.proofs.Telling.{told, why, andThen, breaks, ends, here}
 use Rattle.bit_events.specs.declared.frame.Describing.{Describing}
 use Rattle.bit_events.specs.declared.frame.Frame.{Frame}
 use Rattle.bit_events.specs.Runs.{IsDefinition}
