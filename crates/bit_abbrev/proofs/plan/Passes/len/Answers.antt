@@ -1,6 +1,6 @@
-use Rattle.std.proofs.Common.{◌<◌, ℕ, length, take, inl, inr, sym, ap, ◌∙◌, subst, arith}
+use Rattle.std.proofs.Common.{◌≡◌, ◌<◌, ℕ, length, take, inl, inr, sym, ap, ◌∙◌, subst, arith}
 use Rattle.bit_fields.specs.Buffered.{beyond}
-use Rattle.bit_fields.specs.PlacedView.{loaded}
+use Rattle.bit_fields.specs.PlacedView.{loaded, placed}
 use Rattle.bit_fields.proofs.Placing.{length_at}
 use Rattle.bit_abbrev.specs.Plans.{HasPasses}
 use Rattle.bit_abbrev.proofs.Covering.{two_passes}

@@ -1,4 +1,4 @@
-use Rattle.std.proofs.Common.{◌≡◌, ◌∷◌, [], length, subst, arith}
+use Rattle.std.proofs.Common.{◌≡◌, ◌∷◌, [], List, length, subst, arith}
 use Rattle.bit_abbrev.specs.declared.plan.Plan.{Plan}
 use Rattle.bit_abbrev.specs.Plans.{IsPlan}
 use Rattle.bit_abbrev.proofs.Grouping.{first_still, first_more}
