@@ -19,7 +19,7 @@ use std::test::Fail;
 
 /// The bytes of an input: its magic, and bits of which each fourth is a one, or after an odd seed three of four, so that numbers are
 /// long. They come from a generator by shifts ("Xorshift RNGs", Marsaglia).
-fn made(seed: u64) -> [u8; 700] {
+pub(crate) fn made(seed: u64) -> [u8; 700] {
     let mut random = seed.wrapping_mul(0x9E37_79B9_7F4A_7C15) | 1;
     let mut bytes = [0; 700];
     for byte in &mut bytes {

@@ -22,3 +22,4 @@ pub mod Singles
 pub mod FewValues
 pub mod Buffered
 pub mod Missing
+pub mod HeldRecords

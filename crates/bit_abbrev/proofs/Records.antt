@@ -67,7 +67,7 @@ blob_read room others a count b d e result now new c t u h k =
 
 -- ---- operands
 
-single_then : (room : ℕ) (op : Op) (others : List Op) (a : Reader) (value : ℕ) (b : Reader) (result : Result (Unit {0}) Fault) (now new : List ℕ) (c : Reader) → (op ≡ Array → ⊥) → (op ≡ Blob → ⊥) → Took (scalar op) a value b → Adds (values_of room others) b result (now ++ value ∷ []) new c → Adds (values_of room (op ∷ others)) a result now new c
+pub single_then : (room : ℕ) (op : Op) (others : List Op) (a : Reader) (value : ℕ) (b : Reader) (result : Result (Unit {0}) Fault) (now new : List ℕ) (c : Reader) → (op ≡ Array → ⊥) → (op ≡ Blob → ⊥) → Took (scalar op) a value b → Adds (values_of room others) b result (now ++ value ∷ []) new c → Adds (values_of room (op ∷ others)) a result now new c
 unfolding values_of
 single_then room (Literal v) others a value b result now new c m n t h = value_then (scalar (Literal v)) (values_of room others) a value b result now new c t h
 single_then room (Fixed w) others a value b result now new c m n t h = value_then (scalar (Fixed w)) (values_of room others) a value b result now new c t h
@@ -76,7 +76,7 @@ single_then room Char6 others a value b result now new c m n t h = value_then (s
 single_then room Array others a value b result now new c m n t h = absurd (m refl)
 single_then room Blob others a value b result now new c m n t h = absurd (n refl)
 
-single_fails : (room : ℕ) (op : Op) (others : List Op) (a : Reader) (fault : Fault) (now : List ℕ) (c : Reader) → (op ≡ Array → ⊥) → (op ≡ Blob → ⊥) → Why (scalar op) a fault c → Adds (values_of room (op ∷ others)) a (Err fault) now now c
+pub single_fails : (room : ℕ) (op : Op) (others : List Op) (a : Reader) (fault : Fault) (now : List ℕ) (c : Reader) → (op ≡ Array → ⊥) → (op ≡ Blob → ⊥) → Why (scalar op) a fault c → Adds (values_of room (op ∷ others)) a (Err fault) now now c
 unfolding values_of
 single_fails room (Literal v) others a fault now c m n why = value_fails (scalar (Literal v)) (values_of room others) a fault now c why
 single_fails room (Fixed w) others a fault now c m n why = value_fails (scalar (Fixed w)) (values_of room others) a fault now c why
@@ -92,7 +92,7 @@ not_array op others so is = let none : singles (op ∷ others) ≡ 0 = rw is ref
 not_blob : (op : Op) (others : List Op) → singles (op ∷ others) ≡ suc (length others) → op ≡ Blob → ⊥
 not_blob op others so is = let none : singles (op ∷ others) ≡ 0 = rw is refl in omega (arith, none, so)
 
-one_more : (op : Op) (others : List Op) → (op ≡ Array → ⊥) → (op ≡ Blob → ⊥) → singles (op ∷ others) ≡ suc (singles others)
+pub one_more : (op : Op) (others : List Op) → (op ≡ Array → ⊥) → (op ≡ Blob → ⊥) → singles (op ∷ others) ≡ suc (singles others)
 one_more (Literal v) others m n = refl
 one_more (Fixed w) others m n = refl
 one_more (Vbr w) others m n = refl
@@ -287,7 +287,7 @@ front_then room ops a b before now new result c fits h k = (subst (λ (all : Lis
     few (Ok x) most = omega (arith, most, fits, h.1, length-take-le (singles ops) ops (singles_within ops))
     few (Err fault) most = tt
 
-no_values : (room : ℕ) (a : Reader) (now : List ℕ) → a.live ≡ true → Adds (values_of room []) a (Ok tt) now now a
+pub no_values : (room : ℕ) (a : Reader) (now : List ℕ) → a.live ≡ true → Adds (values_of room []) a (Ok tt) now now a
 unfolding values_of
 no_values room a now live = adds_none a now live
 

@@ -1,8 +1,11 @@
 -- Operands as they are held.
-use Rattle.std.specs.Prelude.{◌≡◌, ◌++◌, ℕ, ◌+◌, ◌*◌, ◌%◌, ◌^◌, ◌≤◌, List, [], ◌∷◌}
+use Rattle.std.specs.Prelude.{◌≡◌, true, ◌++◌, ℕ, ◌+◌, ◌*◌, ◌%◌, ◌^◌, ◌≤◌, List, [], ◌∷◌}
 use Rattle.std.specs.List.{AllByRecursion}
 use Rattle.bit_grammar.specs.declared.op.Op.{Op}
 use Rattle.bit_grammar.specs.declared.op.Op.TheVariants as op
+use Rattle.bit_grammar.specs.declared.op.Place.TheVariants.{Later}
+use Rattle.bit_grammar.specs.Definition.{has_shape, in_order}
+use Rattle.bit_grammar.specs.Record.{singles}
 use Rattle.bit_abbrev.specs.declared.held_op.HeldOp.{HeldOp}
 use Rattle.bit_abbrev.specs.declared.held_op.HeldOp.TheVariants.{Literal, Great, More, Fixed, Vbr, Array, Char6, Blob, End}
 
@@ -54,3 +57,10 @@ pub record Holds (old new : List HeldOp) (ops : List Op) : Type 0 where
   pub same : ops_in more_held.added ≡ ops
   pub whole : more more_held.added ≡ 0
   pub none : NoneEnds more_held.added
+
+-- operands in a lawful order: the first one, and those behind it, so many of which give one value each
+pub record IsLawfulFrom (ops : List Op) (first : Op) (others : List Op) (count : ℕ) : Type 0 where
+  pub parts : ops ≡ first ∷ others
+  pub shape : has_shape ops ≡ true
+  pub order : in_order Later others ≡ true
+  pub many : count ≡ singles others

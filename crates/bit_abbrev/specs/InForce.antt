@@ -20,7 +20,7 @@ finished table = record { ready = table.groups.items; later = table.later }
 -- a definition that was found
 abbrev pub found_ops : Found → List Op
 found_ops (found.Ready ready) = ready.now
-found_ops (found.Made made) = made
+found_ops (found.Held held) = held
 
 abbrev pub found_if_any : Option Found → Option (List Op)
 found_if_any found = option_map found_ops found

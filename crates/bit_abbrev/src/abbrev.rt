@@ -96,7 +96,7 @@ pub(crate) fn place_after(op: Op) -> Place
     }
 }
 
-fn kind_of(op: Op) -> Kind
+pub(crate) fn kind_of(op: Op) -> Kind
     ensures { result ≡ kind_of op }
 {
     match op {

@@ -1,10 +1,10 @@
 //! What a block has from a table.
 
-ghost use Rattle.std.specs.Prelude.{◌≡◌, IfOk, length, slice_get};
+ghost use Rattle.std.specs.Prelude.{◌≡◌, ◌≤◌, Some, IfErr, IfOk, length, slice_get};
 ghost use Rattle.std.specs.Option.{option_copied};
 ghost use Rattle.bit_abbrev.specs.Groups.{IsPlaceOf, ready_for};
 ghost use Rattle.bit_abbrev.specs.HeldLists.{IsRunOf};
-ghost use Rattle.bit_abbrev.specs.InForce.{finished, found_if_any};
+ghost use Rattle.bit_abbrev.specs.InForce.{finished, found_ops};
 ghost use Rattle.bit_abbrev.specs.Ready.{table_of};
 
 use crate::Abbrev;
@@ -12,7 +12,6 @@ use crate::finished::FinishedInfo;
 use crate::found::Found;
 use crate::held::Run;
 use crate::ready::ReadyGroup;
-use std::alloc::{AllocError, Global};
 use std::rc::Rc;
 
 /// The definitions that a block has from a table.
@@ -68,19 +67,22 @@ impl FromTable {
         ready + (held.end - held.start)
     }
 
-    /// The definition at an index, if there is one.
-    pub(crate) fn find(&self, alloc: Global, index: usize) -> Result<Option<Found<'_>>, AllocError>
-        ensures { IfOk result (λ found. found_if_any found
-            ≡ slice_get (table_of (finished self.now.table.value) self.now.id) index) }
+    /// The definition at an index, or else how many there are.
+    pub(crate) fn find(&self, index: usize) -> Result<Found<'_>, usize>
+        ensures found { IfOk result (λ found. slice_get (table_of (finished self.now.table.value) self.now.id) index
+            ≡ Some (found_ops found)) }
+        ensures count { IfErr result (λ count. count ≡ length (table_of (finished self.now.table.value) self.now.id)) }
+        ensures behind { IfErr result (λ count. count ≤ index) }
     {
-        if let Some(abbrev) = self.ready().get(index) {
-            return Ok(Some(Found::Ready(abbrev)));
+        let ready = self.ready();
+        if let Some(abbrev) = ready.get(index) {
+            return Ok(Found::Ready(abbrev));
         }
         let held = self.held();
-        let behind = index - self.ready().len();
+        let behind = index - ready.len();
         if behind >= held.end - held.start {
-            return Ok(None);
+            return Err(ready.len() + (held.end - held.start));
         }
-        Ok(Some(Found::Made(self.table.later.copy(alloc, held.start + behind)?)))
+        Ok(Found::Held(self.table.later.at(held.start + behind)))
     }
 }

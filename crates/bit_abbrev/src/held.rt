@@ -35,10 +35,23 @@ pub(crate) struct Run {
     pub(crate) end: usize,
 }
 
-/// Operands of a definition that are taken one by one.
-#[derive(Clone, Copy)]
-struct HeldRest<'a> {
-    held: &'a [HeldOp],
+/// The operands of a definition that is held in few bytes.
+#[derive(Drop)]
+pub struct HeldOps<'a> {
+    pub(crate) held: &'a [HeldOp],
+}
+
+impl<'a> Model for HeldOps<'a> {
+    ghost use Rattle.std.specs.Prelude.{List};
+    ghost use Rattle.bit_grammar.specs.declared.op.Op.{Op};
+    ghost use Rattle.bit_grammar.specs.FormatDefinition.{Definable};
+    ghost use Rattle.bit_abbrev.specs.HeldOps.{ops_in};
+
+    ghost Value = { List Op };
+
+    ghost view = { λ ops. ops_in ops.held.now };
+
+    ghost invariant = { λ ops. Definable (ops_in ops.held.now) };
 }
 
 /// What the further bytes of a literal add to it, in units of 256.
@@ -51,42 +64,44 @@ fn more(held: &[HeldOp]) -> u64
     }
 }
 
-impl<'a> HeldRest<'a> {
-    /// Takes the first operand, if there is one.
-    fn next(&mut self) -> Option<Op>
-        ensures some { IfSome result (λ op. ops_in self.old.held.now ≡ op ∷ ops_in self.new.held.now) }
-        ensures none { IfNone result (ops_in self.old.held.now ≡ []) }
-    {
-        while let [first, rest @ ..] = self.held {
-            let op = match *first {
-                HeldOp::Literal(value) => Op::Literal(u64::from(value)),
-                HeldOp::Great(byte) => Op::Literal(u64::from(byte) + 256 * more(rest)),
-                HeldOp::Fixed(width) => Op::Fixed(width),
-                HeldOp::Vbr(width) => Op::Vbr(width),
-                HeldOp::Array => Op::Array,
-                HeldOp::Char6 => Op::Char6,
-                HeldOp::Blob => Op::Blob,
-                HeldOp::End => return None,
-                HeldOp::More(_) => {
-                    self.held = rest;
-                    continue;
-                }
-            };
-            self.held = rest;
-            return Some(op);
-        }
-        None
+/// The first operand, if there is one, and what is held behind it.
+#[inline(always)]
+pub(crate) fn first_in(held: &[HeldOp]) -> Option<(Op, &[HeldOp])>
+    ensures some { IfSome result (λ found. ops_in held.now ≡ found.0 ∷ ops_in found.1.now) }
+    ensures none { IfNone result (ops_in held.now ≡ []) }
+    ensures shorter { IfSome result (λ found. length found.1.now < length held.now) }
+{
+    let mut left = held;
+    while let [first, rest @ ..] = left {
+        let op = match *first {
+            HeldOp::Literal(value) => Op::Literal(u64::from(value)),
+            HeldOp::Great(byte) => Op::Literal(u64::from(byte) + 256 * more(rest)),
+            HeldOp::Fixed(width) => Op::Fixed(width),
+            HeldOp::Vbr(width) => Op::Vbr(width),
+            HeldOp::Array => Op::Array,
+            HeldOp::Char6 => Op::Char6,
+            HeldOp::Blob => Op::Blob,
+            HeldOp::End => return None,
+            HeldOp::More(_) => {
+                left = rest;
+                continue;
+            }
+        };
+        return Some((op, rest));
     }
+    None
+}
 
+impl<'a> HeldOps<'a> {
     /// The definition with these operands.
-    fn copy(self, alloc: Global) -> Result<Abbrev, AllocError>
-        requires { Definable (ops_in self.held.now) }
-        ensures { IfOk result (λ copy. copy ≡ ops_in self.entry.held.now) }
+    pub fn copy(self, alloc: Global) -> Result<Abbrev, AllocError>
+        ensures { IfOk result (λ copy. copy ≡ self.entry) }
     {
         let mut ops = Ops::new(alloc);
-        let mut left = self;
-        while let Some(op) = left.next() {
+        let mut left = self.held;
+        while let Some((op, rest)) = first_in(left) {
             ops.push(op)?;
+            left = rest;
         }
         Ok(Abbrev::from_definable(ops))
     }
@@ -234,24 +249,24 @@ impl HeldList {
         }
     }
 
-    /// The definition at an index.
-    pub(crate) fn copy(&self, alloc: Global, index: usize) -> Result<Abbrev, AllocError>
+    /// The operands of the definition at an index.
+    pub(crate) fn at(&self, index: usize) -> HeldOps<'_>
         requires { index < length self.now }
-        ensures { IfOk result (λ copy. slice_get (all_of self.now) index ≡ Some copy) }
+        ensures { slice_get (all_of self.now) index ≡ Some result }
     {
         let start = self.heads[index].start as usize;
-        let rest = HeldRest {
+        HeldOps {
             held: &self.held[start..],
-        };
-        rest.copy(alloc)
+        }
     }
+
     /// The last definition, if there is one.
     pub(crate) fn last(&self, alloc: Global) -> Result<Option<Abbrev>, AllocError>
         ensures { IfOk result (λ last. last ≡ last_one (all_of self.now)) }
     {
         match self.len() {
             0 => Ok(None),
-            len => Ok(Some(self.copy(alloc, len - 1)?)),
+            len => Ok(Some(self.at(len - 1).copy(alloc)?)),
         }
     }
 }

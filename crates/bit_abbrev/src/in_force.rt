@@ -155,25 +155,23 @@ impl<'a> Definitions<'a> {
 
 /// The block's own definition at an index, if there is one.
 fn find_own<'a>(
-    alloc: Global,
     own: &'a [Abbrev],
-    later: &Option<Box<HeldList>>,
+    later: &'a Option<Box<HeldList>>,
     index: usize,
-) -> Result<Option<Found<'a>>, AllocError>
-    ensures { IfOk result (λ found. found_if_any found
-        ≡ slice_get (own.now ++ all_of (later_list later.now)) index) }
+) -> Option<Found<'a>>
+    ensures { found_if_any result ≡ slice_get (own.now ++ all_of (later_list later.now)) index }
 {
     if let Some(abbrev) = own.get(index) {
-        return Ok(Some(Found::Ready(abbrev)));
+        return Some(Found::Ready(abbrev));
     }
     let Some(later) = later else {
-        return Ok(None);
+        return None;
     };
     let place = index - own.len();
     if place >= later.len() {
-        return Ok(None);
+        return None;
     }
-    Ok(Some(Found::Made(later.copy(alloc, place)?)))
+    Some(Found::Held(later.at(place)))
 }
 
 impl InForce {
@@ -255,18 +253,19 @@ impl InForce {
         self.all().get(index)
     }
 
-    /// The definition at an index, if there is one. One that is held in few bytes is made anew.
-    pub fn find(&self, index: usize) -> Result<Option<Found<'_>>, AllocError>
-        ensures { IfOk result (λ found. found_if_any found ≡ slice_get self.now.all index) }
+    /// The definition at an index, if there is one.
+    #[inline]
+    pub fn find(&self, index: usize) -> Option<Found<'_>>
+        ensures { found_if_any result ≡ slice_get self.now.all index }
     {
-        let mut count = 0;
-        if let Some(shared) = &self.shared {
-            count = shared.len();
-            if index < count {
-                return shared.find(self.alloc, index);
-            }
-        }
-        find_own(self.alloc, self.own.as_slice(), &self.later, index - count)
+        let count = match &self.shared {
+            None => 0,
+            Some(shared) => match shared.find(index) {
+                Ok(found) => return Some(found),
+                Err(count) => count,
+            },
+        };
+        find_own(self.own.as_slice(), &self.later, index - count)
     }
 
     /// The last definition that the block added, if there is one and it is ready.

@@ -23,7 +23,11 @@ use bit_grammar::{Op, Reason};
 
 /// Gives a value to the value sink.
 #[inline(always)]
-fn keep<B: Bits, V: ValueTaker>(bits: &mut B, values: &mut V, value: u64) -> Result<(), B::Miss>
+pub(crate) fn keep<B: Bits, V: ValueTaker>(
+    bits: &mut B,
+    values: &mut V,
+    value: u64,
+) -> Result<(), B::Miss>
     ensures ok { OnOk result ((B.as_reader bits.new ≡ B.as_reader bits.old)
         × ((before : List ℕ) → V.took values.old before
         → V.took values.new (before ++ value ∷ []))) }
@@ -160,7 +164,7 @@ fn read_elements<U, B: Runs, V: ValueTaker>(
 
 /// Reads an array of fields of an operand, at most `room` of them.
 #[inline(always)]
-fn read_array<U, B: Runs, V: ValueTaker>(
+pub(crate) fn read_array<U, B: Runs, V: ValueTaker>(
     bits: &mut B,
     room: u64,
     element: Op,
@@ -179,7 +183,7 @@ fn read_array<U, B: Runs, V: ValueTaker>(
 
 /// Reads a blob of at most `room` bytes.
 #[inline(always)]
-fn read_blob<U, B: Runs, V: ValueTaker>(
+pub(crate) fn read_blob<U, B: Runs, V: ValueTaker>(
     bits: &mut B,
     room: u64,
     values: &mut V,

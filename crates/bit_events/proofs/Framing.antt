@@ -18,15 +18,14 @@ use Rattle.bit_grammar.specs.Forest.{set_bid, names_block}
 use Rattle.bit_grammar.specs.Blocks.{Handed, Scope, defined, may_define, define, by_definition, entry, describe, record_after}
 use Rattle.bit_grammar.specs.Machine.{scope_of}
 use Rattle.bit_fields.specs.declared.fault.Fault.{Fault}
-use Rattle.bit_fields.specs.declared.fault.Fault.TheVariants.{Memory}
-use Rattle.bit_fields.specs.Reader.{Reader, Took, Why, Takes, told_by, failed_reader}
+use Rattle.bit_fields.specs.Reader.{Reader, Took, Why, Takes, told_by}
 use Rattle.bit_fields.proofs.Composing.{took_then, fault_then, took_nothing, first_chosen, second_chosen, holds_then, same_reading}
 use Rattle.bit_grammar.specs.Definition.{definition, has_shape}
 use Rattle.bit_abbrev.specs.Bits.{Answers}
 use Rattle.bit_abbrev.specs.Ready.{InfoMade, table_of}
 use Rattle.bit_abbrev.specs.declared.abbrev.Abbrev.{Abbrev}
 use Rattle.bit_abbrev.specs.Values.{AddsWithin, Gains}
-use Rattle.bit_events.proofs.Telling.{told, why, andThen, breaks, ends, here, without_memory}
+use Rattle.bit_events.proofs.Telling.{told, why, andThen, breaks, ends, here}
 use Rattle.bit_events.specs.declared.frame.Describing.{Describing}
 use Rattle.bit_events.specs.declared.frame.Frame.{Frame}
 use Rattle.bit_events.specs.Runs.{IsDefinition}
@@ -83,11 +82,6 @@ no_entry room first id definitions a fault b other none why =
     by true is =
         let some : None ≡ Some (get_or definitions (id - 4) []) = sym none ∙ slice_get-get_or definitions (id - 4) [] (ltb-true (id - 4) (length definitions) is) in
         absurd cc
-
--- a definition that is ready is the one in force
-pub ready_is : {M : Type 0} (faults : M → Fault → Type 0) (definitions : List (List Op)) (id : ℕ) (ready : Option (Bor Abbrev)) → is_some ready ≡ true → IfSome ready (λ one. slice_get definitions (id - 4) ≡ Some one.now) → IsDefinition faults definitions id (option_copied ready)
-ready_is faults definitions id None some is = absurd cc
-ready_is faults definitions id (Some one) some is = is
 
 -- where a miss gives no reason, nothing is said if none is ready
 pub ready_or_missed : (M : Type 0) (definitions : List (List Op)) (id : ℕ) (ready : Option (Bor Abbrev)) → IfSome ready (λ one. slice_get definitions (id - 4) ≡ Some one.now) → IsDefinition {M = M} (λ miss fault. ⊥) definitions id (option_copied ready)

@@ -7,7 +7,6 @@ ghost use Rattle.bit_grammar.specs.declared.op.Place.TheVariants.{First};
 ghost use Rattle.bit_grammar.specs.Machine.{scope_of};
 ghost use Rattle.bit_fields.specs.Reader.{Takes, told_by};
 ghost use Rattle.bit_abbrev.specs.Defining.{AddsRead};
-ghost use Rattle.bit_abbrev.specs.InForce.{found_if_any};
 ghost use Rattle.bit_abbrev.specs.Ready.{either};
 ghost use Rattle.bit_abbrev.specs.Values.{AddsWithin, Gains, Has, Keeps};
 ghost use Rattle.bit_events.specs.Firsts.{TookWithFirst};
@@ -17,7 +16,7 @@ use crate::entry::read_entry;
 use crate::head::BlockHead;
 use crate::heads::or_memory_fault;
 use crate::with_first::WithFirst;
-use bit_abbrev::{Abbrev, Found, InForce, InfoBuilder, read_count, read_ops};
+use bit_abbrev::{Abbrev, Found, InForce, InfoBuilder, read_count, read_held_record, read_ops};
 use bit_fields::{BitReader, Fault, Reason, Shapes, Source, ValueTaker};
 use bit_grammar::SET_BID;
 use std::alloc::{AllocError, Global};
@@ -242,38 +241,6 @@ fn describe<S: Source>(
     }
 }
 
-/// The definition that was found, if there is one.
-fn found_one<'a>(found: &'a Option<Found<'_>>) -> Option<&'a Abbrev>
-    ensures { option_copied result ≡ found_if_any found.now }
-{
-    match found {
-        Some(found) => Some(found.get()),
-        None => None,
-    }
-}
-
-/// Like `read_entry`, by a definition that is held in few bytes, or by none.
-#[cold]
-#[inline(never)]
-fn entry_apart<S: Source, V: ValueTaker>(
-    reader: &mut BitReader<S>,
-    definitions: &InForce,
-    room: u64,
-    id: u32,
-    first: u64,
-    values: &mut WithFirst<V>,
-) -> Result<u64, Fault>
-    requires live { reader.old.live ≡ true }
-    requires id { 4 ≤ id }
-    ensures adds { Gains (TookWithFirst V.took) values.old values.new
-        (AddsWithin (entry room first id definitions.now.all) room reader.old result reader.new) }
-    ensures keeps { Keeps (TookWithFirst V.took) values.old values.new }
-{
-    let found = or_memory_fault(reader, definitions.find((id - 4) as usize))?;
-    let abbrev = found_one(&found);
-    read_entry::<(V,), _, _>(reader, abbrev, room, id, first, values)
-}
-
 /// Like `read_entry`, by the definition of the id, if there is one.
 #[inline(always)]
 fn entry_in<S: Source, V: ValueTaker>(
@@ -290,11 +257,19 @@ fn entry_in<S: Source, V: ValueTaker>(
         (AddsWithin (entry room first id definitions.now.all) room reader.old result reader.new) }
     ensures keeps { Keeps (TookWithFirst V.took) values.old values.new }
 {
-    let ready = definitions.get(id.saturating_sub(4) as usize);
-    if id == 3 || ready.is_some() {
-        return read_entry::<V, _, _>(reader, ready, room, id, first, values);
-    }
-    entry_apart(reader, definitions, room, id, first, values)
+    let found = if id == 3 {
+        None
+    } else {
+        definitions.find((id - 4) as usize)
+    };
+    let ready = match found {
+        Some(Found::Held(ops)) => {
+            return read_held_record::<V, _, _>(reader, ops, first, room, values);
+        }
+        Some(Found::Ready(ready)) => Some(ready),
+        None => None,
+    };
+    read_entry::<V, _, _>(reader, ready, room, id, first, values)
 }
 
 /// Reads a record, after its id, which began at `first`, and returns its code and the bit after it. The value sink is empty before.
