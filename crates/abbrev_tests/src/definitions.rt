@@ -255,7 +255,7 @@ pub(crate) fn put(alloc: Global, table: &mut InfoBuilder, id: u32, value: u64) -
 
 /// A table that has these literals for this id.
 fn table_of(alloc: Global, id: u32, values: &[u64]) -> Result<InfoBuilder, Fail> {
-    let mut table = InfoBuilder::new(alloc, 0);
+    let mut table = InfoBuilder::new(alloc);
     for value in values {
         put(alloc, &mut table, id, *value)?;
     }

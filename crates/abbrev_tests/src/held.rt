@@ -24,7 +24,7 @@ fn many_at(id: u32, number: u32) -> u64 {
 
 /// A table with many definitions for the ids 9 and 8, by turns.
 fn many_for_two(alloc: Global) -> Result<SharedInfo, Fail> {
-    let mut table = InfoBuilder::new(alloc, 0);
+    let mut table = InfoBuilder::new(alloc);
     for number in 0..MADE {
         put(alloc, &mut table, 9, many_at(9, number))?;
         put(alloc, &mut table, 8, many_at(8, number))?;

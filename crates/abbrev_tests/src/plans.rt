@@ -115,7 +115,7 @@ fn described(alloc: Global, ops: &[Op]) -> Result<InForce, Fail> {
     let Ok(abbrev) = Abbrev::new(SmallVec::from_slice(alloc, ops)?) else {
         return Err("it is lawful".into());
     };
-    let mut table = InfoBuilder::new(alloc, 1);
+    let mut table = InfoBuilder::new(alloc);
     table.define(8, abbrev)?;
     Ok(SharedInfo::share(alloc, table)?.enter(alloc, 8)?)
 }
