@@ -149,13 +149,13 @@ impl Frame {
 
 /// The definition, with a plan if it is to have one.
 #[inline(always)]
-fn planned_if(planned: bool, abbrev: Abbrev) -> Abbrev
-    ensures { result ≡ abbrev }
+fn planned_if(planned: bool, definition: Abbrev) -> Abbrev
+    ensures { result ≡ definition }
 {
     if planned {
-        return abbrev.planned();
+        return definition.planned();
     }
-    abbrev
+    definition
 }
 
 /// Reads a definition, after its id, which began at `first`, and returns the bit after it. It is then the newest one, with a plan if

@@ -276,12 +276,7 @@ fn pass_placed<G: Gatherer>(
         });
     }
     let room = limits.values().saturating_sub(*used);
-    let run = gatherer.pass(
-        bits,
-        u32::from(frame.head.width),
-        &frame.definitions,
-        room,
-    )?;
+    let run = gatherer.pass(bits, u32::from(frame.head.width), &frame.definitions, room)?;
     *used += room - run.room;
     Ok(GatheredRun {
         after: run.after,

@@ -190,8 +190,7 @@ impl<'a> SliceEvents<'a> {
         let room = self.limits.values().saturating_sub(self.machine.used);
         let mut passing = Passing { left: most };
         let width = u32::from(frame.head.width);
-        let Ok(run) = pass_records(bits, width, &frame.definitions, room, &mut passing)
-        else {
+        let Ok(run) = pass_records(bits, width, &frame.definitions, room, &mut passing) else {
             return 0;
         };
         if passing.left == most {
