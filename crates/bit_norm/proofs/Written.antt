@@ -1,33 +1,27 @@
 -- Records that are read from buffered bits and stored at a position.
-use Rattle.std.proofs.Common.{◌≡◌, ℕ, zero, suc, ◌+◌, ◌*◌, ◌-◌, ◌^◌, ◌<◌, ◌≤◌, Bool, true, List, [], ◌∷◌, ◌++◌, length, take, drop, replicate, Result, Ok, Err, refl, sym, ap, ◌∙◌, subst, arith, append_assoc, inl, inr, Option, Some, None}
+use Rattle.std.proofs.Common.{◌≡◌, ℕ, zero, suc, ◌+◌, ◌*◌, ◌-◌, ◌≤◌, Bool, List, [], ◌∷◌, ◌++◌, length, take, drop, replicate, refl, sym, ap, ◌∙◌, subst, arith, append_assoc, Option, Some, None}
 use Rattle.std.specs.Prelude.{MatchOption}
-use Rattle.std.proofs.Math.Seq.{take-suc, get_or-append_seam}
-use Rattle.std.proofs.lemmas.Bool.{le-leb, cases_lt}
-use Rattle.std.proofs.lemmas.List.{append-nil, length-append, length-drop, length-replicate, take-append-drop, take_all, take_at}
+use Rattle.std.proofs.lemmas.List.{append-nil, length-append, length-drop, length-replicate, take-append-drop, take_all}
 use Rattle.bit_grammar.specs.declared.op.Op.{Op}
-use Rattle.bit_grammar.specs.declared.op.Op.TheVariants.{Literal, Fixed, Vbr, Array, Char6, Blob}
+use Rattle.bit_grammar.specs.declared.op.Op.TheVariants.{Vbr}
 use Rattle.bit_grammar.specs.Bits.{bits_of}
 use Rattle.bit_grammar.specs.Blocks.{by_definition}
-use Rattle.bit_grammar.specs.Definition.{has_shape}
-use Rattle.bit_grammar.specs.Fields.{vbr, char6}
+use Rattle.bit_grammar.specs.Fields.{vbr}
 use Rattle.bit_grammar.specs.FormatDefinition.{op_at}
 use Rattle.bit_grammar.specs.FormatFields.{shortest}
-use Rattle.bit_grammar.specs.Grammar.{Grammar, Fault, repeat, reading}
+use Rattle.bit_grammar.specs.Grammar.{repeat}
 use Rattle.bit_grammar.specs.Normal.{entry_text, values_bits}
-use Rattle.bit_grammar.specs.Record.{scalar, singles, value_count, values_of, abbreviated}
-use Rattle.bit_grammar.specs.Terms.{character}
+use Rattle.bit_grammar.specs.Record.{scalar}
 use Rattle.bit_grammar.proofs.Bits.Numbers.{length-bits_of}
 use Rattle.bit_grammar.proofs.NormalForms.Sizes.{short_length, short_range}
 use Rattle.bit_fields.specs.Buffered.{BufferedBits, Reads, beyond}
 use Rattle.bit_fields.specs.Pens.{Puts, KeepsFront, HasWord, TakesNumber, WritesSixes}
 use Rattle.bit_fields.specs.declared.placed.PlacedBits.{PlacedBits}
 use Rattle.bit_fields.specs.PlacedView.{placed}
-use Rattle.bit_fields.proofs.BufferedReads.{reads_forward, reads_there}
-use Rattle.bit_fields.proofs.Placing.{fixed_shown}
+use Rattle.bit_fields.proofs.BufferedReads.{reads_there}
 use Rattle.bit_fields.proofs.PlainRecords.{repeat_both}
-use Rattle.bit_abbrev.specs.Layouts.{IsSingle, AreSingles, HasLayout}
-use Rattle.bit_abbrev.specs.declared.layout.Layout.TheVariants as layout
-use Rattle.bit_abbrev.proofs.Covering.{beyond_both, beyond_none, same_ok, left_is}
+use Rattle.bit_abbrev.specs.Layouts.{AreSingles}
+use Rattle.bit_abbrev.proofs.Covering.{beyond_both, beyond_none, left_is}
 use Rattle.bit_abbrev.specs.Scalars.{TakesScalar, HasScalars}
 use Rattle.bit_abbrev.proofs.Singles.{scalars_then, scalars_one, scalars_run, scalars_many, scalars_same, scalars_forward, left_enough, list_read, coded_read, ListParts, CodedParts}
 use Rattle.bit_norm.specs.Written.{WritesElements, WritesRecord, WritesScalars}

@@ -1,5 +1,4 @@
-use Rattle.std.proofs.Common.{ℕ, Result, sym, ap, ◌∙◌}
-use Rattle.std.specs.Option.{option_copied}
+use Rattle.std.proofs.Common.{ℕ, Result, sym, ◌∙◌}
 use Rattle.std.proofs.lemmas.Result.{err_from_is_err_and}
 use Rattle.bit_grammar.specs.Blocks.{entry}
 use Rattle.bit_grammar.specs.Record.{abbreviated, unabbreviated}

@@ -1,8 +1,7 @@
-use Rattle.std.proofs.Common.{Ok, refl}
+use Rattle.std.proofs.Common.{refl}
 use Rattle.bit_grammar.specs.declared.op.Place.TheVariants.{First}
 use Rattle.bit_grammar.specs.Definition.{operands}
 use Rattle.bit_abbrev.proofs.Operands.{adds_so}
-use Rattle.bit_events.proofs.Framing.{put_described}
 use Rattle.bit_events.proofs.frame.Frame.read_held.Goals as goal
 
 pub returns-in-None-clause-reads : goal.returns-in-None-clause-reads
