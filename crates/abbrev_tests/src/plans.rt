@@ -4,10 +4,7 @@ ghost use Rattle.std.specs.Prelude.{◌≤◌, length, IfSome};
 ghost use Rattle.bit_fields.specs.BufferedParts.{AreParts};
 ghost use Rattle.bit_fields.specs.PlacedView.{loaded};
 
-use bit_abbrev::{
-    Abbrev, InForce, InfoBuilder, MARGIN, Op, Passed, Plan, SharedInfo, pass_plain, read_plain,
-    read_record,
-};
+use bit_abbrev::{Abbrev, MARGIN, Op, Passed, pass_plain, read_plain, read_record};
 use bit_fields::{
     BitReader, Buffered, BufferedParts, Limits, LoadedBits, PlacedBits, SliceSource, ValueCount,
     ValueTaker,
@@ -110,18 +107,16 @@ static DEFINITIONS: [&[Op]; 11] = [
     ],
 ];
 
-/// The definitions in force in a block for which one is described, with plans.
-fn described(alloc: Global, ops: &[Op]) -> Result<InForce, Fail> {
+/// A definition with a plan.
+fn planned(alloc: Global, ops: &[Op]) -> Result<Abbrev, Fail> {
     let Ok(abbrev) = Abbrev::new(SmallVec::from_slice(alloc, ops)?) else {
         return Err("it is lawful".into());
     };
-    let mut table = InfoBuilder::new(alloc);
-    table.define(8, abbrev)?;
-    Ok(SharedInfo::share(alloc, table)?.enter(alloc, 8)?)
+    Ok(abbrev.planned())
 }
 
 /// Whether the record by a definition at a bit of an input is passed over by its plan. It is then passed over as it is read.
-fn is_passed(rt: &impl Abort, abbrev: &Abbrev, plan: &Plan, bytes: &[u8], skipped: u64) -> bool {
+fn is_passed(rt: &impl Abort, abbrev: &Abbrev, bytes: &[u8], skipped: u64) -> bool {
     let Ok((mut reader, _)) = BitReader::start(SliceSource::new(bytes), Limits::usual()) else {
         return false;
     };
@@ -130,7 +125,7 @@ fn is_passed(rt: &impl Abort, abbrev: &Abbrev, plan: &Plan, bytes: &[u8], skippe
     }
     let parts = reader.buffered_parts().ok().expect(rt, "a live reader");
     let (mut buffered, fields) = behind(parts, skipped).expect(rt, "bits enough");
-    let Some(passed) = plan.pass(fields, 1000) else {
+    let Some(passed) = abbrev.plan().pass(fields, 1000) else {
         return false;
     };
     let first = buffered.position();
@@ -182,12 +177,12 @@ fn is_plain_passed(rt: &impl Abort, bytes: &[u8], skipped: u64) -> bool {
 }
 
 /// How many records by such a definition are passed over in some inputs.
-fn count_passed(rt: &impl Abort, abbrev: &Abbrev, plan: &Plan) -> u64 {
+fn count_passed(rt: &impl Abort, abbrev: &Abbrev) -> u64 {
     let mut passed: u64 = 0;
     for seed in 0..40 {
         let bytes = made(seed);
         for skipped in 70..110 {
-            if is_passed(rt, abbrev, plan, &bytes, skipped) {
+            if is_passed(rt, abbrev, &bytes, skipped) {
                 passed = passed.wrapping_add(1);
             }
         }
@@ -198,10 +193,7 @@ fn count_passed(rt: &impl Abort, abbrev: &Abbrev, plan: &Plan) -> u64 {
 #[test]
 fn records_are_passed_as_they_are_read(rt: HostRuntime) -> Result<(), Fail> {
     for ops in &DEFINITIONS {
-        let definitions = described(rt.alloc(), ops)?;
-        let plan = definitions.plans().first().ok_or("it has a plan")?;
-        let abbrev = definitions.get(0).ok_or("it is in force")?;
-        let passed = count_passed(&rt, abbrev, plan);
+        let passed = count_passed(&rt, &planned(rt.alloc(), ops)?);
         assert!(rt; passed > 100, "{ops:?}: {passed}");
     }
     Ok(())
