@@ -178,14 +178,9 @@ impl Gatherer for Counter {
         room: u64,
     ) -> Result<PassedRun, AllocError> {
         match self.open.last() {
-            Some(block) => self.rows.pass(
-                block.id,
-                block.place,
-                bits,
-                width,
-                definitions,
-                room,
-            ),
+            Some(block) => self
+                .rows
+                .pass(block.id, block.place, bits, width, definitions, room),
             None => Ok(PassedRun::none(bits, room)),
         }
     }

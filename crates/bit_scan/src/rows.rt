@@ -14,7 +14,7 @@ ghost use Rattle.bit_scan.specs.declared.rows.Addition.TheVariants as addition;
 ghost use Rattle.bit_scan.specs.Rows.{block_tally, block_tallies, rows_after, with_codes, with_run, AddsToRow, CountsInRow};
 
 use crate::links::{Keyed, Spot, find, is_at, lead};
-use bit_abbrev::{InForce};
+use bit_abbrev::InForce;
 use bit_events::{CountedRecord, PassedRun, RunCounter, pass_records};
 use bit_fields::PlacedBits;
 use std::alloc::{AllocError, Global};
@@ -443,13 +443,7 @@ fn pass_at(
         → block_tallies rows.new ≡ cut_rows (rows_after records id tallies))) }
 {
     let (_, row) = &mut rows[place];
-    row.pass(
-        &mut places[place % 32],
-        bits,
-        width,
-        definitions,
-        room,
-    )
+    row.pass(&mut places[place % 32], bits, width, definitions, room)
 }
 
 /// Begins the row of an id that has none, at the end, with what an event adds, and returns its place.
