@@ -74,10 +74,6 @@ plain_few room code count len values rest start a d e few many len_is first seco
       subst (λ (vs : List ℕ). Reads rule start (record { code = code; values = vs }) (beyond start len)) (sym front) (subst (Reads rule start value) end all),
     )
 
-pub plain_forward : (code count : ℕ) (values : List ℕ) (start a d e : BufferedBits) → Reads (vbr 6) start code a → Reads (vbr 6) a count d → ReadsSixes values d e → start.position ≤ e.position
-plain_forward code count values start a d e first second third =
-    omega (arith, reads_forward (vbr 6) start code a first, reads_forward (vbr 6) a count d second, ap (λ (q : BufferedBits). q.position) third.is)
-
 pub coded_few : (first room code place : ℕ) (ops : List Op) (op : Op) (others : List Op) (start a : BufferedBits) (passed : Passed) (list : List ℕ) → CodedParts ops op others → place ≡ start.position → TakesScalar op 1888 start code a → ReadsSingles place code room others a passed list
     → ReadsFew (by_definition first room ops) start passed list
 coded_few first room code place ops op others start a passed list parts place_is head read =

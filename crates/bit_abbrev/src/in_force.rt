@@ -268,6 +268,16 @@ impl InForce {
         find_own(self.own.as_slice(), &self.later, index - count)
     }
 
+    /// Whether some are held in few bytes, perhaps those of another block. Only speed depends on it.
+    #[inline(always)]
+    pub fn has_held(&self) -> bool {
+        self.later.is_some()
+            || match &self.shared {
+                None => false,
+                Some(shared) => shared.table.later.len() > 0,
+            }
+    }
+
     /// The last definition that the block added, if there is one and it is ready.
     pub fn newest_ready(&self) -> Option<&Abbrev>
         ensures { option_copied result ≡ self.now.ready }

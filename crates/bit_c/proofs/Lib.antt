@@ -7,6 +7,5 @@ pub mod Making
 pub mod Walks
 pub mod Written
 pub mod Told
-pub mod Fed
 pub mod Sources
 pub mod Deep

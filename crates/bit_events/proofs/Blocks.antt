@@ -86,10 +86,6 @@ ends_here deepest m k f popped shown outer a after b n count is split plain read
     made : machine_shown n ≡ record { frames = outer; handed = leave shown.info (handed_shown m) }
     made = rw (plain, same, (frames-pop m.frames.items n.frames.items popped shown outer items split).1) refl
 
-pub none_if : {A : Type 0} (o : Option A) → ((x : A) → o ≡ Some x → ⊥) → o ≡ None
-none_if None isnt = refl
-none_if (Some x) isnt = absurd (isnt x refl)
-
 -- what follows an id
 later : (rule whole : Grammar (Event × machine.Machine)) (deepest : ℕ) (m : Machine) (a b : BufferedBits) (found : Option Step) (n : Machine) → a.position ≤ b.position → ((c : BufferedBits) (value : Event × machine.Machine) → Took rule (reader_at b) value (reader_at c) → Took whole (reader_at a) value (reader_at c)) → StepsHere rule deepest m b found n → StepsHere whole deepest m a found n
 later rule whole deepest m a b None n forward so same = same
@@ -240,14 +236,6 @@ stop_after gathered fails limits m a g n b h k on later = λ r sees.
     let there : Reader = reader_further r (b.position - a.position) in
     let one = on.gathers r sees in
     first_after gathered fails limits m r g n there h k one.0 (later there one.1)
-
--- no more bits are left
-pub on_fewer : {G : Type 0} (gathered : G → List Event → G → Type 0) (limits : Limits) (m : Machine) (a : BufferedBits) (g : G) (n : Machine) (b : BufferedBits) (h : G) → GathersOn gathered limits m a g n b h → length b.bits ≤ length a.bits
-on_fewer gathered limits m a g n b h on = omega (arith, ap length on.passed.1, length-append on.passed.0 b.bits)
-
--- after a step fewer bits are left
-pub step_fewer : (rule : Grammar (Event × machine.Machine)) (deepest : ℕ) (m : Machine) (a : BufferedBits) (event : Event) (n : Machine) (b : BufferedBits) → FindsHere rule deepest m a event n b → a.position < b.position → length b.bits < length a.bits
-step_fewer rule deepest m a event n b here moves = (let p = reads_passed rule a (event, machine_shown n) b here.reads in omega (arith, moves, p.2, ap length p.1, length-append p.0 b.bits))
 
 -- ---- a reader that catches up
 

@@ -1,16 +1,17 @@
 -- Gathering records of which only the number of values is wanted.
-use Rattle.std.proofs.Common.{◌≡◌, ℕ, ◌+◌, ◌-◌, ◌≤◌, ◌<◌, List, length, length-append, None, refl, sym, ap, subst, arith, take}
+use Rattle.std.proofs.Common.{◌≡◌, ℕ, ◌+◌, ◌-◌, ◌≤◌, ◌<◌, List, length, length-append, Option, None, Result, Ok, Err, IfOk, OnErr, refl, sym, ap, subst, arith, take}
 use Rattle.std.proofs.lemmas.List.{append-nil, length-take-le, take-append-drop}
 use Rattle.bit_grammar.specs.Blocks.{Limits}
 use Rattle.bit_grammar.specs.Machine.{Event}
 use Rattle.bit_fields.specs.Buffered.{BufferedBits, beyond}
 use Rattle.bit_events.specs.declared.frame.Frame.{Frame}
 use Rattle.bit_events.specs.declared.passing.PassedRun.{PassedRun}
+use Rattle.bit_events.specs.declared.running.GatheredRun.{GatheredRun}
 use Rattle.bit_events.specs.Gathering.{left_open}
 use Rattle.bit_events.specs.Passing.{PassesRun}
-use Rattle.bit_events.specs.Runs.{GathersRun, GathersTo, Passed}
+use Rattle.bit_events.specs.Runs.{GathersRun, GathersTo, Passed, StopsRun}
 use Rattle.bit_events.proofs.Blocks.{passed_beyond}
-use Rattle.bit_events.proofs.Runs.{gathers_then, passed_both}
+use Rattle.bit_events.proofs.Runs.{gathers_then, passed_both, stop_later}
 use Rattle.bit_events.proofs.Stepping.{length-frames}
 
 -- records that were passed over were gathered, in a block with ids of this width
@@ -67,3 +68,15 @@ run_then gathered limits f used a b g now_used first h more_used after k least t
       omega (arith, l.1, place),
       rw (← place, ← l.2) (gathers_then gathered limits f used b g now_used (beyond a n) h more_used c k so run.2),
     )
+
+pub runs_then : {G E : Type 0} (gathered : G → List Event → G → Type 0) (limits : Limits) (f : Frame) (used : ℕ) (a b : BufferedBits) (g : G) (now_used first : ℕ) (h : G) (more_used : ℕ) (k : G) (result : Result GatheredRun E) → a.position ≤ first → first - a.position ≤ length a.bits → GathersTo gathered limits f used b g now_used (beyond a (first - a.position)) h → IfOk result (λ run. GathersRun gathered limits f now_used (beyond a (first - a.position)) h more_used run.after k)
+    → IfOk result (λ run. GathersRun gathered limits f used b g more_used run.after k)
+runs_then gathered limits f used a b g now_used first h more_used k (Ok run) least there so ran =
+    let both = run_then gathered limits f used a b g now_used first h more_used run.after k least there so ran in
+    (beyond a (run.after - a.position), omega (arith, both.0, least), both.2)
+runs_then gathered limits f used a b g now_used first h more_used k (Err fault) least there so ran = tt
+
+pub stops_then : {G A E : Type 0} (gathered : G → List Event → G → Type 0) (fails : G → Option Event → G → Type 0) (limits : Limits) (f : Frame) (used : ℕ) (a : BufferedBits) (g : G) (now_used : ℕ) (b : BufferedBits) (h k : G) (result : Result A E) → GathersTo gathered limits f used a g now_used b h → OnErr result (StopsRun gathered fails limits f now_used b h k)
+    → OnErr result (StopsRun gathered fails limits f used a g k)
+stops_then gathered fails limits f used a g now_used b h k (Ok x) so stopped = tt
+stops_then gathered fails limits f used a g now_used b h k (Err fault) so stopped = stop_later gathered fails limits f used a g now_used b h k so stopped

@@ -35,10 +35,6 @@ open_behind-append : (xs ys : List Event) (n : ℕ) → open_behind (xs ++ ys) n
 open_behind-append [] ys n = refl
 open_behind-append (x ∷ xs) ys n = open_behind-append xs ys (open_after x n)
 
--- none
-pub passes_none : (c : Coming) → PassesEvents 0 c c
-passes_none c = record { events = []; many = refl; pays = Spends-refl c.incoming c.budget; head = refl; depth = refl; told = λ tells. refl }
-
 -- some, and then others
 pub passes_then : (n m k : ℕ) (a b c : Coming) → n + m ≡ k → PassesEvents n a b → PassesEvents m b c → PassesEvents k a c
 passes_then n m k a b c all p q = record {

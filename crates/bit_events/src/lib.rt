@@ -29,6 +29,7 @@ mod frame;
 mod gatherer;
 mod head;
 mod heads;
+mod lent;
 mod machine;
 mod names;
 mod open_blocks;

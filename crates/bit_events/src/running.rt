@@ -17,7 +17,7 @@ ghost use Rattle.bit_events.specs.Runs.{AddsBehind, GathersRun, ReadsTo, SeesRec
 use crate::entry::read_entry;
 use crate::frame::Frame;
 use crate::gatherer::Gatherer;
-use bit_abbrev::{Abbrev, FEW, InForce, Layout, MARGIN, read_few};
+use bit_abbrev::{Abbrev, FEW, Found, InForce, Layout, MARGIN, read_few, read_held_record};
 use bit_fields::{Buffered, BufferedParts, FieldWidth, Limits, PlacedBits, ValueTaker};
 use std::alloc::AllocError;
 
@@ -89,8 +89,8 @@ pub(crate) fn buffered_item<U, V: ValueTaker>(
 
 /// Records that were gathered: the bit after the last one, and whether no record comes there that is buffered.
 #[derive(Clone, Copy)]
-pub(crate) struct GatheredRun {
-    pub(crate) after: u64,
+struct GatheredRun {
+    after: u64,
     is_over: bool,
 }
 
@@ -106,7 +106,7 @@ fn may_pass(id: u32, abbrev: Option<&Abbrev>) -> bool {
 
 /// Gathers buffered records one by one, until one comes that may be passed over. The first is read in any case.
 #[inline(never)]
-pub(crate) fn gather_odd<G: Gatherer>(
+fn gather_odd<G: Gatherer>(
     buffered: Buffered<'_>,
     frame: &Frame,
     limits: &Limits,
@@ -299,6 +299,118 @@ pub(crate) fn buffered_from<'a>(parts: BufferedParts<'a>, first: u64, loaded: u6
     buffered
 }
 
+/// Reads a buffered record by a definition that is held in few bytes, and its id, in a block that is no BLOCKINFO block, and returns
+/// the id and the code. If the item is no such record, the values stay. For `U` see `read_record`.
+#[inline(always)]
+fn held_item<U, V: ValueTaker>(
+    buffered: &mut Buffered<'_>,
+    frame: &Frame,
+    room: u64,
+    values: &mut V,
+) -> Option<(u32, u64)>
+    requires took { TookSome V.took values.old }
+    requires plain { frame.now.info ≡ None }
+    ensures sees { IfSome result (λ read. Gains V.took values.old values.new
+        (AddsBehind (λ list. (length list ≤ room)
+        × SeesRecord frame.now room buffered.old read list buffered.new))) }
+    ensures keeps { Keeps V.took values.old values.new }
+    ensures moves { OnSome result (buffered.old.position < buffered.new.position) }
+{
+    let first = buffered.position();
+    let id = record_id(buffered, frame)?;
+    if id == 3 {
+        return None;
+    }
+    let Some(Found::Held(ops)) = frame.definitions.find((id - 4) as usize) else {
+        return None;
+    };
+    match read_held_record::<U, Buffered<'_>, V>(buffered, ops, first, room, values) {
+        Ok(code) => Some((id, code)),
+        Err(_) => None,
+    }
+}
+
+/// Gathers buffered records by definitions that are held in few bytes, one by one, until another item comes.
+#[cold]
+#[inline(never)]
+fn gather_held<G: Gatherer>(
+    buffered: Buffered<'_>,
+    frame: &Frame,
+    limits: &Limits,
+    used: &mut u64,
+    gatherer: &mut G,
+    values: &mut G::Values,
+) -> Result<GatheredRun, AllocError>
+    requires took { TookSome G.Values.took values.old }
+    requires plain { frame.now.info ≡ None }
+    ensures took { TookSome G.Values.took values.new }
+    ensures gathers { IfOk result (λ run. GathersRun G.gathered limits.now frame.now used.old
+        buffered.entry gatherer.old used.new run.after gatherer.new) }
+    ensures moves { IfOk result (λ run. run.is_over ≡ false → buffered.entry.position < run.after) }
+    ensures stops { OnErr result (StopsRun G.gathered G.fails limits.now frame.now used.old
+        buffered.entry gatherer.old gatherer.new) }
+{
+    let mut buffered = buffered;
+    let mut first = buffered.position();
+    let mut spent = *used;
+    let mut room = limits.values().saturating_sub(spent);
+    let mut is_over = true;
+    loop {
+        values.truncate(0);
+        let found = held_item::<((G,),), G::Values>(&mut buffered, frame, room, values);
+        let Some((id, code)) = found else {
+            *used = spent;
+            return Ok(GatheredRun {
+                after: first,
+                is_over,
+            });
+        };
+        let after = buffered.position();
+        let count = values.count();
+        spent += count;
+        room = room.saturating_sub(count);
+        gatherer.record(id, code, values, first, after)?;
+        first = after;
+        is_over = false;
+    }
+}
+
+/// Gathers records from a bit on one by one, until one comes that may be passed over. The first is read in any case. Whether the last
+/// ones are read depends on where the window ends: so it ends at `loaded`, as that of an exact reader.
+#[inline(always)]
+fn gather_each<G: Gatherer>(
+    parts: BufferedParts<'_>,
+    start: u64,
+    loaded: u64,
+    frame: &Frame,
+    limits: &Limits,
+    used: &mut u64,
+    gatherer: &mut G,
+    values: &mut G::Values,
+) -> Result<GatheredRun, AllocError>
+    requires lawful { AreParts parts }
+    requires least { (bits_of_parts parts).position ≤ start }
+    requires there { start - (bits_of_parts parts).position ≤ length (bits_of_parts parts).bits }
+    requires took { TookSome G.Values.took values.old }
+    requires plain { frame.now.info ≡ None }
+    ensures took { TookSome G.Values.took values.new }
+    ensures gathers { IfOk result (λ run. GathersRun G.gathered limits.now frame.now used.old
+        (beyond (bits_of_parts parts.entry) (start - (bits_of_parts parts.entry).position))
+        gatherer.old used.new run.after gatherer.new) }
+    ensures moves { IfOk result (λ run. run.is_over ≡ false → start < run.after) }
+    ensures stops { OnErr result (StopsRun G.gathered G.fails limits.now frame.now used.old
+        (beyond (bits_of_parts parts.entry) (start - (bits_of_parts parts.entry).position))
+        gatherer.old gatherer.new) }
+{
+    let buffered = buffered_from(parts, start, loaded);
+    let run = gather_odd(buffered, frame, limits, used, gatherer, values)?;
+    if !run.is_over || !frame.definitions.has_held() {
+        return Ok(run);
+    }
+    let buffered = buffered_from(parts, run.after, loaded_at(run.after, loaded));
+    gather_held(buffered, frame, limits, used, gatherer, values)
+}
+
 /// Gathers records of a block that is no BLOCKINFO block from a bit on, as long as they are completely buffered, and returns the bit
 /// after the last one. The gatherer passes over what it can.
 #[inline(always)]
@@ -334,8 +446,7 @@ pub(crate) fn gather_records<G: Gatherer>(
     )
 }
 
-/// The same, if the next record is odd. Whether the last ones are read depends on where the window ends: so it ends at `loaded`, as
-/// that of an exact reader.
+/// The same, if the next record is odd.
 #[inline(never)]
 fn gather_on<G: Gatherer>(
     parts: BufferedParts<'_>,
@@ -364,8 +475,7 @@ fn gather_on<G: Gatherer>(
     let mut window = loaded;
     loop {
         window = loaded_at(first, window);
-        let buffered = buffered_from(parts, first, window);
-        let run = gather_odd(buffered, frame, limits, used, gatherer, values)?;
+        let run = gather_each(parts, first, window, frame, limits, used, gatherer, values)?;
         first = run.after;
         if run.is_over {
             return Ok(first);

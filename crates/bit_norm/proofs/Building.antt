@@ -15,7 +15,7 @@ use Rattle.bit_grammar.specs.Normal.{chain, padding, values_bits, head_text, blo
 use Rattle.bit_grammar.specs.Size.{end_of}
 use Rattle.bit_grammar.specs.Steps.{open_after}
 use Rattle.bit_grammar.proofs.Bits.Numbers.{length-bits_of}
-use Rattle.bit_grammar.proofs.NormalForms.Sizes.{items_end, padding_again, short_length}
+use Rattle.bit_grammar.proofs.NormalForms.Sizes.{items_end, padding_again}
 use Rattle.bit_grammar.proofs.NormalForms.Texts.{pad_length}
 use Rattle.bit_events.specs.Gathering.{left_open}
 use Rattle.bit_events.specs.Standing.{OpenUnder}
@@ -27,7 +27,6 @@ use Rattle.bit_fields.proofs.Texts.{with_word_between}
 use Rattle.bit_norm.specs.Told.{told_at_level}
 use Rattle.bit_norm.specs.Building.{form_so_far, begins, length_and_body, whole_form, form_with, holes_of, AreWords, Builds, PassesLimit, Forms, HasForm, record_left, left_events, IsFormOf, AddsRecord}
 use Rattle.bit_norm.specs.Writing.{record_front, record_text, enter_text}
-use Rattle.bit_norm.proofs.ChunkCounting.{short_few}
 use Rattle.bit_norm.proofs.ValueTexts.{values_text-append}
 use Rattle.bit_norm.specs.declared.form_builder.FormBuilder.{FormBuilder}
 
@@ -458,10 +457,6 @@ end_parts text a b a_is b_is =
     let x = bits_of 2 0 in
     let place : length a ≡ length text + length x = ap length a_is ∙ length-append text x in
     b_is ∙ ap (λ (n : ℕ). a ++ padding n) place ∙ ap (λ (s : List Bool). s ++ padding (length text + length x)) a_is ∙ append_assoc text x (padding (length text + length x))
-
--- how many bits a number adds
-pub vbr_adds : (n value : ℕ) (old new : List Bool) → 2 ≤ n → n ≤ 32 → new ≡ old ++ shortest n value → length new ≤ length old + 2048
-vbr_adds n value old new some few is = omega (arith, ap length is, length-append old (shortest n value), short_length n value (omega (arith, some)), short_few n value some few)
 
 length-holes : (outer : List (List Bool)) → length (holes_of outer) ≡ length outer
 length-holes [] = refl

@@ -4,7 +4,6 @@ use Rattle.std.specs.Prelude.{max}
 use Rattle.std.specs.Io.KnownBytes.{Consumes, Keeps, IsAtEnd, prepend_known}
 use Rattle.std.proofs.KnownBytes.{Keeps-refl}
 use Rattle.std.proofs.lemmas.Bool.{cases_lt}
-use lib.Seq.{take-append_seam}
 use Rattle.bit_fields.specs.Devices.{Calls, CalledFrom, keeping, calling, Says, SaysOf, Incoming, Begins, Gave, GaveNone, GaveUnseen, Looked}
 use Rattle.bit_fields.proofs.Keeping.{says_before}
 use Rattle.bit_norm.specs.Rejoined.{calls_with, has_some, is_more, rejoined_of}
@@ -123,19 +122,6 @@ unseen_again h given k o d p most i fresh is owed fewer some few = record {
     take-all : (xs : List ℕ) → take (length xs) xs ≡ xs
     take-all [] = refl
     take-all (x ∷ xs) = ap (λ (s : List ℕ). x ∷ s) (take-all xs)
-
-pub begins_again : (o : Option (List ℕ)) (h shown rest : List ℕ) → h ≡ shown ++ rest → Begins (prepend_known h o) shown
-begins_again None h shown rest is = tt
-begins_again (Some xs) h shown rest is = ap (take (length shown)) (ap (λ (s : List ℕ). s ++ xs) is ∙ append_assoc shown rest xs) ∙ take-append_seam shown (rest ++ xs)
-
-pub looked_same : (i : Incoming) → Looked i i
-looked_same i = record {
-  bytes = Keeps-refl i.to_come;
-  pulls = refl;
-  failures = refl;
-  worn = λ _. refl;
-  accounts = λ n all says. says;
-}
 
 -- it had failed before
 pub none_again : (h : List ℕ) (o p f : ℕ) (i : Incoming) → 0 < f → max p f < 2 ^ 64 - 1 → GaveNone (rejoined_of h o p f i) (rejoined_of h o (p + 1) (f + 1) i)

@@ -53,14 +53,6 @@ module _ (first old : EqualRecords) (done : List RecordMark) (mark : RecordMark)
         (ap left_open (left_more (first_telling begun.compared ((events ++ map notes done) ++ [])) (first_telling d.compared []) (events ++ map notes done) (notes mark) (here.tallied []) false left ∙ append-nil (events_under begun.compared.second_blocks.setting [] (events ++ map notes done))))));
   }
 
--- no record was counted
-pub counted_none : (r : EqualRecords) → CountsEqual r [] r
-counted_none r = record {
-  blocks = refl;
-  equal = refl;
-  passes = λ begun c events same to at front some. rw (append-nil events, at) front;
-}
-
 -- records that were counted were passed over
 pub passed_counted : (begun old : Comparing) (done : List Event) (records : List RecordMark) (first last : EqualRecords) → CountsEqual first records last → old.compared.second_blocks ≡ first.blocks.now → old.passed_to ≡ first.equal → first.passed ≡ old.passed → first.items ≡ old.compared.items → first.ended ≡ old.compared.second_ended
     → Matches begun done old → old.compared.found ≡ None → 0 < old.passed_to → 0 < left_open done → Matches begun (done ++ map notes records) (at_records old last)

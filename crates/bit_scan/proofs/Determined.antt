@@ -114,24 +114,8 @@ fronts_then front pairs fits x y px py e = fields_then pairs fits x y px py (app
 
 -- ---- operands
 
-abbrev letter_of : Op → ℕ
-letter_of (Literal number) = 108
-letter_of (Fixed number) = 102
-letter_of (Vbr number) = 118
-letter_of Array = 97
-letter_of Char6 = 99
-letter_of Blob = 98
-
 abbrev tenth : List ℕ → ℕ
 tenth text = get_or text 9 0
-
-letter_is : (op : Op) (rest : List ℕ) → tenth (op_json op ++ rest) ≡ letter_of op
-letter_is (Literal number) rest = refl
-letter_is (Fixed number) rest = refl
-letter_is (Vbr number) rest = refl
-letter_is Array rest = refl
-letter_is Char6 rest = refl
-letter_is Blob rest = refl
 
 number_of_op : (front : List ℕ) (m n : ℕ) → m < 2 ^ 64 → n < 2 ^ 64 → (x y : List ℕ) → ((front ++ (number_json m ++ [])) ++ codes "}") ++ x ≡ ((front ++ (number_json n ++ [])) ++ codes "}") ++ y → (m ≡ n) × (x ≡ y)
 number_of_op front m n hm hn x y e =

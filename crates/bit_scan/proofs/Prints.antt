@@ -9,7 +9,6 @@ use Rattle.bit_fields.specs.Devices.{Outgoing}
 use Rattle.bit_fields.specs.declared.fault.Fault.{Fault}
 use Rattle.bit_fields.specs.declared.fault.Fault.TheVariants.{Refused, Read, Write, Memory, OutputTooLong, Failed}
 use Rattle.bit_scan.specs.Printing.{Printing, Printed, PrintedAll, PrintedFront, Prints, PrintsWhole}
-use Rattle.bit_scan.specs.Adding.{Adds}
 use Rattle.bit_scan.specs.Written.{TookText, TookFront, HasFailed, WritesText}
 
 -- ---- one call
@@ -28,11 +27,6 @@ settled text old held (Err Failed) new is p = p
 pub piece_settled : (text : List ℕ) (old : Printing) (held : List ℕ) (added : Result (Unit {0}) AllocError) (r : Result (Unit {0}) Fault) (new : Printing) → OnOk added (held ≡ old.held ++ text) → OnOk added (Prints [] (record { outgoing = old.outgoing; held = held }) r new) → OnErr added ((r ≡ Err Memory) × (new ≡ record { outgoing = old.outgoing; held = held })) → Prints text old r new
 piece_settled text old held (Ok v) r new is p wrong = settled text old held r new is p
 piece_settled text old held (Err e) r new is p wrong = rw (wrong.0, wrong.1) (record { front = []; rest = old.held ++ text; split = refl; bytes = Appends-nil old.outgoing.bytes }, refl)
-
--- a line was added to the buffer or not; or an allocation failed
-pub line_added : (text : List ℕ) (outgoing : Outgoing) (old held : List ℕ) (is_added : Bool) → Adds text old (Ok is_added) held → PrintsWhole text (record { outgoing = outgoing; held = old }) (Ok is_added) (record { outgoing = outgoing; held = held })
-line_added text outgoing old held true is = record { part = []; split = sym is; bytes = Appends-nil outgoing.bytes; failures = refl }
-line_added text outgoing old held false is = ap (λ (l : List ℕ). record { outgoing = outgoing; held = l }) is
 
 pub none_printed : (text : List ℕ) (old new : Printing) → new.outgoing ≡ old.outgoing → Prints text old (Err Memory) new
 none_printed text old new same = (record { front = []; rest = old.held ++ text; split = refl; bytes = subst (λ (o : Outgoing). Appends old.outgoing.bytes o.bytes []) (sym same) (Appends-nil old.outgoing.bytes) }, ap (λ (o : Outgoing). o.failures) same)

@@ -62,11 +62,6 @@ digit_more text from i n more k digit is = record {
 pub digit_next : (text : List ℕ) (from i j n more : ℕ) → j ≡ i + 1 → i < length text → digits_after 10 n (get_or text i 0 ∷ []) ≡ Ok more → IsNumber text from i n → IsNumber text from j more
 digit_next text from i j n more e k digit is = rw e (digit_more text from i n more k digit is)
 
-pub no_word : (text : List ℕ) (from : ℕ) → from ≤ length text → IsWord text from (from + 0) 0
-no_word text from h =
-    let e : from + 0 ≡ from = omega arith in
-    rw e (record { number = no_digits text from h; ends = λ a b. absurd (omega (arith, a)) })
-
 pub word_there : (text : List ℕ) (from to n : ℕ) → get_or text to 0 ≡ 32 → IsNumber text from to n → IsWord text from to n
 word_there text from to n same is = record { number = is; ends = λ a b. same }
 

@@ -1,11 +1,9 @@
 -- A text from a source.
-use Rattle.std.proofs.Common.{◌≡◌, refl, ℕ, ◌+◌, ◌-◌, ◌^◌, List, [], ◌++◌, take, Result, Ok, Err, sym, ◌∙◌, ap, subst, inl, inr, append-nil}
-use Rattle.std.specs.Prelude.{max}
-use Rattle.std.proofs.lemmas.Bool.{cases_lt}
+use Rattle.std.proofs.Common.{◌≡◌, refl, ℕ, ◌+◌, ◌-◌, List, [], ◌++◌, take, Result, Ok, Err, sym, ◌∙◌, ap, subst, inl, inr, append-nil}
 use Rattle.std.proofs.KnownBytes.{Consumes-trans, Consumes-nil}
 use Rattle.bit_grammar.specs.Blocks.{Limits}
 use Rattle.bit_grammar.specs.Forest.{Tree}
-use Rattle.bit_fields.specs.Devices.{Incoming, Outgoing, Gave, GaveNone, IsWorn}
+use Rattle.bit_fields.specs.Devices.{Incoming, Outgoing, Gave}
 use Rattle.bit_fields.specs.declared.fault.Fault.{Fault}
 use Rattle.bit_fields.specs.declared.fault.Fault.TheVariants.{Read, Write, Memory, OutputTooLong, Failed, Refused as RefusedBits}
 use Rattle.bit_text.specs.declared.reason.TextReason.{TextReason}
@@ -14,7 +12,7 @@ use Rattle.bit_text.specs.declared.fault.AssembleFault.TheVariants.{Refused, Fau
 use Rattle.bit_text.specs.declared.assembler.Assembler.{Assembler}
 use Rattle.bit_text.specs.Listings.{Standing, at_start, reading_of}
 use Rattle.bit_text.specs.Stops.{IsAt}
-use Rattle.bit_text.specs.Assembling.{outlook, TakesBytes, TakesAll, Took, TookAll, HasFailed, Finishes, Assembles}
+use Rattle.bit_text.specs.Assembling.{outlook, TakesBytes, TakesAll, Took, TookAll, Finishes, Assembles}
 
 -- ---- pulls
 
@@ -26,13 +24,6 @@ took_more text into count i j k took gave = record {
   bytes = Consumes-trans i.to_come j.to_come k.to_come text (take count into) took.bytes gave.bytes;
   failures = gave.failures ∙ took.failures;
 }
-
-pub pull_failed : (text : List ℕ) (i j k : Incoming) → Took text i j → GaveNone j k → HasFailed i k
-pull_failed text i j k took none =
-    elim (cases_lt (max j.pulls j.failures) (2 ^ 64 - 1)) [
-      | inl fresh ↦ inl (let counted = none.counted fresh in counted.1 ∙ ap (λ (n : ℕ). n + 1) took.failures)
-      | inr worn ↦ inr (subst IsWorn (sym (none.worn worn)) worn)
-    ]
 
 pub taken_fault : (now : Standing) (text : List ℕ) (i later : Incoming) (old new : Assembler) (fault : AssembleFault) → Took text i later → TakesBytes now text old (Err fault) new → TakesAll now i old (Err fault) later new
 taken_fault now text i later old new (Refused reason line) took takes = (text, took, takes)

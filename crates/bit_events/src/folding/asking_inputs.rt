@@ -512,3 +512,91 @@ pub(crate) fn wide(alloc: Global, seed: u64, items: u32) -> Result<Vec<u8>, Allo
     }
     Ok(bytes)
 }
+
+// ---- definitions that are held in few bytes
+
+/// How many definitions of a block or of BLOCKINFO are ready at most.
+const READY: u32 = 256;
+
+impl Describer {
+    /// Appends a definition of a literal code alone, which no record here uses.
+    fn literal(&mut self) -> Result<(), AllocError> {
+        let width = self.maker.width();
+        self.maker.push(2, width)?;
+        self.maker.vbr(1, 5)?;
+        self.maker.push(1, 1)?;
+        self.maker.vbr(7, 8)
+    }
+
+    /// Appends so many definitions for block 8 to a BLOCKINFO block or to the innermost block. Records use the last ones.
+    fn many(&mut self, literals: u32, shapes: u32) -> Result<(), AllocError> {
+        for _ in 0..literals {
+            self.literal()?;
+        }
+        for _ in 0..shapes {
+            let shape = self.maker.shape();
+            let width = self.maker.width();
+            self.maker.push(2, width)?;
+            self.maker.operands(shape)?;
+            self.shapes.push(shape)?;
+        }
+        Ok(())
+    }
+
+    /// Appends records by the last definitions, of which the first has this id, and some that are not abbreviated.
+    fn records(&mut self, id: u64, count: u32) -> Result<(), AllocError> {
+        for _ in 0..count {
+            let most = (self.shapes.len() as u64).saturating_add(1).max(1);
+            let place = self.maker.below(most);
+            match self.shapes.get(place as usize) {
+                Some(shape) => self.maker.abbreviated(id.wrapping_add(place), *shape)?,
+                None => self.maker.record()?,
+            }
+        }
+        Ok(())
+    }
+}
+
+/// A stream of a block with definitions, of its own or, for every second seed, of BLOCKINFO. The last four that are ready and the
+/// twelve behind them have records.
+fn holding(alloc: Global, seed: u64) -> Result<Vec<u8>, AllocError> {
+    let mut made = Describer {
+        maker: Maker {
+            bytes: Vec::new(alloc),
+            bits: 0,
+            open: Vec::new(alloc),
+            random: seed.wrapping_mul(0x9E37_79B9_7F4A_7C15) | 1,
+        },
+        shapes: Vec::new(alloc),
+        begins: Vec::new(alloc),
+        described: Vec::new(alloc),
+    };
+    let literals = READY - 4;
+    made.maker.push(0xDEC0_4342, 32)?;
+    if seed % 2 == 1 {
+        made.maker.begin(0, 2)?;
+        made.maker.short_record(1, 8)?;
+        made.many(literals, 16)?;
+        made.maker.end()?;
+    }
+    made.maker.begin(8, 10)?;
+    if seed % 2 == 0 {
+        made.many(literals, 16)?;
+    }
+    made.records(u64::from(literals) + 4, 40)?;
+    made.maker.end()?;
+    Ok(made.maker.bytes)
+}
+
+/// Such a stream. Every third one has a bit changed near its end.
+pub(crate) fn held(alloc: Global, seed: u64) -> Result<Vec<u8>, AllocError> {
+    let mut bytes = holding(alloc, seed)?;
+    let back = seed.wrapping_mul(0x9E37_79B9) % 500;
+    let place = bytes.len().saturating_sub(back as usize);
+    if seed % 3 == 0 {
+        if let Some(byte) = bytes.get_mut(place) {
+            *byte ^= 1 << (seed % 8) as u32;
+        }
+    }
+    Ok(bytes)
+}

@@ -2,19 +2,19 @@
 
 ghost use Rattle.bit_events.specs.MachineView.{TookSome};
 
-use super::asking_inputs::{made, wide};
+use super::asking_inputs::{held, made, wide};
 use super::{gather_next, hand_on};
 use crate::events_tests::{Pieces, pieces_of};
 use crate::folding_tests::Text;
 use crate::machine::Machine;
 use crate::passing::{CountedRecord, PassedRun, RunCounter, pass_records};
-use crate::running::gather_odd;
+use crate::running::gather_records;
 use crate::with_first::WithFirst;
 use crate::{Gatherer, fold};
 use bit_abbrev::{Abbrev, InForce};
 use bit_fields::{
-    BitReader, BufSource, Buffered, Fault, FrontSource, KeptSource, Limits, PlacedBits,
-    SliceSource, Source, ValueCount, ValueTaker,
+    BitReader, BufSource, Fault, FrontSource, KeptSource, Limits, PlacedBits, SliceSource, Source,
+    ValueCount, ValueTaker,
 };
 use std::alloc::{AllocError, Global};
 use std::io;
@@ -47,11 +47,10 @@ impl<S: Source, G: Gatherer> Folding<S, G> {
             return Ok(());
         }
         let parts = self.reader.buffered_parts()?;
-        let buffered = Buffered::new(parts);
-        let start = buffered.position();
+        let (start, loaded) = (parts.position(), parts.loaded());
         let (used, gatherer) = (&mut self.machine.used, &mut self.gatherer);
-        match gather_odd(buffered, frame, limits, used, gatherer, values) {
-            Ok(run) => self.reader.catch_up(run.after.saturating_sub(start)),
+        match gather_records(parts, start, loaded, frame, limits, used, gatherer, values) {
+            Ok(after) => self.reader.catch_up(after.saturating_sub(start)),
             Err(_) => Err(self.reader.fail(Fault::Memory)),
         }
     }
@@ -459,6 +458,18 @@ fn a_fold_of_definitions_asks_as_it_did(rt: HostRuntime) {
         let limits = narrow(&rt, rt.alloc(), seed, &bytes);
         let events = (seed % 40) as u32;
         for room in [24, 31, 40, 64, 100, 400, 4096] {
+            all_reads_alike(&rt, rt.alloc(), &bytes, limits, room, events);
+        }
+    }
+}
+
+#[test]
+fn a_fold_of_held_definitions_asks_as_it_did(rt: HostRuntime) {
+    for seed in 0..8 {
+        let bytes = held(rt.alloc(), seed).expect(&rt, "memory");
+        let limits = narrow(&rt, rt.alloc(), seed, &bytes);
+        let events = 272 + (seed % 40) as u32;
+        for room in [64, 400, 4096] {
             all_reads_alike(&rt, rt.alloc(), &bytes, limits, room, events);
         }
     }

@@ -20,19 +20,17 @@ returns-in_err-run-clause-stops g c =
     let a = c.args in
     let bits = bits_of_parts a.parts in
     let l = c.loop-run in
-    let stops = subst (λ (b : BufferedBits). StopsRun g.G.Gatherer.gathered g.G.Gatherer.fails a.limits.now a.frame.now l.used b l.gatherer c.gather_odd.new.gatherer) c.buffered_from-buffered.ensures c.in_err-run.ensures.stops in
     let p = err_from_is_err_and c.from_residual.result c.from_residual.ensures.1 in
-    rw p.1 (stop_later g.G.Gatherer.gathered g.G.Gatherer.fails a.limits.now a.frame.now a.used.now (beyond bits (a.start - a.parts.position)) a.gatherer.now l.used (beyond bits (l.first - a.parts.position)) l.gatherer c.gather_odd.new.gatherer l.invariant.gathers stops)
+    rw p.1 (stop_later g.G.Gatherer.gathered g.G.Gatherer.fails a.limits.now a.frame.now a.used.now (beyond bits (a.start - a.parts.position)) a.gatherer.now l.used (beyond bits (l.first - a.parts.position)) l.gatherer c.gather_each.new.gatherer l.invariant.gathers c.in_err-run.ensures.stops)
 
 pub returns-then-run-clause-gathers : goal.returns-then-run-clause-gathers
 returns-then-run-clause-gathers g c =
     let a = c.args in
     let bits = bits_of_parts a.parts in
     let l = c.loop-run in
-    let u = c.gather_odd.new in
+    let u = c.gather_each.new in
     let after = c.in_ok-run.run'.after in
-    let odd = subst (λ (b : BufferedBits). GathersRun g.G.Gatherer.gathered a.limits.now a.frame.now l.used b l.gatherer u.used after u.gatherer) c.buffered_from-buffered.ensures c.in_ok-run.ensures.gathers in
-    let one = run_then g.G.Gatherer.gathered a.limits.now a.frame.now a.used.now bits (beyond bits (a.start - a.parts.position)) a.gatherer.now l.used l.first l.gatherer u.used after u.gatherer l.invariant.least l.invariant.there l.invariant.gathers odd in
+    let one = run_then g.G.Gatherer.gathered a.limits.now a.frame.now a.used.now bits (beyond bits (a.start - a.parts.position)) a.gatherer.now l.used l.first l.gatherer u.used after u.gatherer l.invariant.least l.invariant.there l.invariant.gathers c.in_ok-run.ensures.gathers in
     let place : a.parts.position + (after - a.parts.position) ≡ after = omega (arith, one.0, l.invariant.least) in
     (beyond bits (after - a.parts.position), place, one.2)
 
@@ -41,20 +39,18 @@ pass_placed-requires-clause-there g c =
     let a = c.args in
     let bits = bits_of_parts a.parts in
     let l = c.loop-run in
-    let u = c.gather_odd.new in
+    let u = c.gather_each.new in
     let after = c.in_ok-run.run'.after in
-    let odd = subst (λ (b : BufferedBits). GathersRun g.G.Gatherer.gathered a.limits.now a.frame.now l.used b l.gatherer u.used after u.gatherer) c.buffered_from-buffered.ensures c.in_ok-run.ensures.gathers in
-    (run_then g.G.Gatherer.gathered a.limits.now a.frame.now a.used.now bits (beyond bits (a.start - a.parts.position)) a.gatherer.now l.used l.first l.gatherer u.used after u.gatherer l.invariant.least l.invariant.there l.invariant.gathers odd).1
+    (run_then g.G.Gatherer.gathered a.limits.now a.frame.now a.used.now bits (beyond bits (a.start - a.parts.position)) a.gatherer.now l.used l.first l.gatherer u.used after u.gatherer l.invariant.least l.invariant.there l.invariant.gathers c.in_ok-run.ensures.gathers).1
 
 pub returns-in_err-run-2-clause-stops : goal.returns-in_err-run-2-clause-stops
 returns-in_err-run-2-clause-stops g c =
     let a = c.args in
     let bits = bits_of_parts a.parts in
     let l = c.loop-run in
-    let u = c.gather_odd.new in
+    let u = c.gather_each.new in
     let after = c.in_ok-run.run'.after in
-    let odd = subst (λ (b : BufferedBits). GathersRun g.G.Gatherer.gathered a.limits.now a.frame.now l.used b l.gatherer u.used after u.gatherer) c.buffered_from-buffered.ensures c.in_ok-run.ensures.gathers in
-    let one = run_then g.G.Gatherer.gathered a.limits.now a.frame.now a.used.now bits (beyond bits (a.start - a.parts.position)) a.gatherer.now l.used l.first l.gatherer u.used after u.gatherer l.invariant.least l.invariant.there l.invariant.gathers odd in
+    let one = run_then g.G.Gatherer.gathered a.limits.now a.frame.now a.used.now bits (beyond bits (a.start - a.parts.position)) a.gatherer.now l.used l.first l.gatherer u.used after u.gatherer l.invariant.least l.invariant.there l.invariant.gathers c.in_ok-run.ensures.gathers in
     let p = err_from_is_err_and c.from_residual-in_err-run-2.result c.from_residual-in_err-run-2.ensures.1 in
     rw p.1 (stop_later g.G.Gatherer.gathered g.G.Gatherer.fails a.limits.now a.frame.now a.used.now (beyond bits (a.start - a.parts.position)) a.gatherer.now u.used (beyond bits (after - a.parts.position)) u.gatherer c.pass_placed.new.gatherer one.2 c.in_err-run-2.ensures.stops)
 
@@ -63,12 +59,11 @@ returns-then-run-2-clause-gathers g c =
     let a = c.args in
     let bits = bits_of_parts a.parts in
     let l = c.loop-run in
-    let u = c.gather_odd.new in
+    let u = c.gather_each.new in
     let t = c.pass_placed.new in
     let after = c.in_ok-run.run'.after in
     let last = c.in_ok-run-2.run'.after in
-    let odd = subst (λ (b : BufferedBits). GathersRun g.G.Gatherer.gathered a.limits.now a.frame.now l.used b l.gatherer u.used after u.gatherer) c.buffered_from-buffered.ensures c.in_ok-run.ensures.gathers in
-    let one = run_then g.G.Gatherer.gathered a.limits.now a.frame.now a.used.now bits (beyond bits (a.start - a.parts.position)) a.gatherer.now l.used l.first l.gatherer u.used after u.gatherer l.invariant.least l.invariant.there l.invariant.gathers odd in
+    let one = run_then g.G.Gatherer.gathered a.limits.now a.frame.now a.used.now bits (beyond bits (a.start - a.parts.position)) a.gatherer.now l.used l.first l.gatherer u.used after u.gatherer l.invariant.least l.invariant.there l.invariant.gathers c.in_ok-run.ensures.gathers in
     let least : a.parts.position ≤ after = omega (arith, one.0, l.invariant.least) in
     let two = run_then g.G.Gatherer.gathered a.limits.now a.frame.now a.used.now bits (beyond bits (a.start - a.parts.position)) a.gatherer.now u.used after u.gatherer t.used last t.gatherer least one.1 one.2 c.in_ok-run-2.ensures.gathers in
     let place : a.parts.position + (last - a.parts.position) ≡ last = omega (arith, two.0, least) in
@@ -79,28 +74,25 @@ loop-run-smaller g c =
     let a = c.args in
     let bits = bits_of_parts a.parts in
     let l = c.loop-run in
-    let u = c.gather_odd.new in
+    let u = c.gather_each.new in
     let t = c.pass_placed.new in
     let after = c.in_ok-run.run'.after in
     let last = c.in_ok-run-2.run'.after in
-    let odd = subst (λ (b : BufferedBits). GathersRun g.G.Gatherer.gathered a.limits.now a.frame.now l.used b l.gatherer u.used after u.gatherer) c.buffered_from-buffered.ensures c.in_ok-run.ensures.gathers in
-    let one = run_then g.G.Gatherer.gathered a.limits.now a.frame.now a.used.now bits (beyond bits (a.start - a.parts.position)) a.gatherer.now l.used l.first l.gatherer u.used after u.gatherer l.invariant.least l.invariant.there l.invariant.gathers odd in
+    let one = run_then g.G.Gatherer.gathered a.limits.now a.frame.now a.used.now bits (beyond bits (a.start - a.parts.position)) a.gatherer.now l.used l.first l.gatherer u.used after u.gatherer l.invariant.least l.invariant.there l.invariant.gathers c.in_ok-run.ensures.gathers in
     let least : a.parts.position ≤ after = omega (arith, one.0, l.invariant.least) in
     let two = run_then g.G.Gatherer.gathered a.limits.now a.frame.now a.used.now bits (beyond bits (a.start - a.parts.position)) a.gatherer.now u.used after u.gatherer t.used last t.gatherer least one.1 one.2 c.in_ok-run-2.ensures.gathers in
-    let moved = subst (λ (b : BufferedBits). b.position < after) c.buffered_from-buffered.ensures (c.in_ok-run.ensures.moves c.if-run.false) in
-    omega (arith, two.0, moved, l.invariant.least)
+    omega (arith, two.0, c.in_ok-run.ensures.moves c.if-run.false)
 
 pub loop-run-preserved : goal.loop-run-preserved
 loop-run-preserved g c =
     let a = c.args in
     let bits = bits_of_parts a.parts in
     let l = c.loop-run in
-    let u = c.gather_odd.new in
+    let u = c.gather_each.new in
     let t = c.pass_placed.new in
     let after = c.in_ok-run.run'.after in
     let last = c.in_ok-run-2.run'.after in
-    let odd = subst (λ (b : BufferedBits). GathersRun g.G.Gatherer.gathered a.limits.now a.frame.now l.used b l.gatherer u.used after u.gatherer) c.buffered_from-buffered.ensures c.in_ok-run.ensures.gathers in
-    let one = run_then g.G.Gatherer.gathered a.limits.now a.frame.now a.used.now bits (beyond bits (a.start - a.parts.position)) a.gatherer.now l.used l.first l.gatherer u.used after u.gatherer l.invariant.least l.invariant.there l.invariant.gathers odd in
+    let one = run_then g.G.Gatherer.gathered a.limits.now a.frame.now a.used.now bits (beyond bits (a.start - a.parts.position)) a.gatherer.now l.used l.first l.gatherer u.used after u.gatherer l.invariant.least l.invariant.there l.invariant.gathers c.in_ok-run.ensures.gathers in
     let least : a.parts.position ≤ after = omega (arith, one.0, l.invariant.least) in
     let two = run_then g.G.Gatherer.gathered a.limits.now a.frame.now a.used.now bits (beyond bits (a.start - a.parts.position)) a.gatherer.now u.used after u.gatherer t.used last t.gatherer least one.1 one.2 c.in_ok-run-2.ensures.gathers in
     record { least = omega (arith, two.0, least); there = two.1; gathers = two.2; took = c.in_ok-run.ensures.took }
