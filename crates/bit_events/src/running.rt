@@ -89,8 +89,8 @@ pub(crate) fn buffered_item<U, V: ValueTaker>(
 
 /// Records that were gathered: the bit after the last one, and whether no record comes there that is buffered.
 #[derive(Clone, Copy)]
-struct GatheredRun {
-    after: u64,
+pub(crate) struct GatheredRun {
+    pub(crate) after: u64,
     is_over: bool,
 }
 
@@ -106,7 +106,7 @@ fn may_pass(id: u32, abbrev: Option<&Abbrev>) -> bool {
 
 /// Gathers buffered records one by one, until one comes that may be passed over. The first is read in any case.
 #[inline(never)]
-fn gather_odd<G: Gatherer>(
+pub(crate) fn gather_odd<G: Gatherer>(
     buffered: Buffered<'_>,
     frame: &Frame,
     limits: &Limits,

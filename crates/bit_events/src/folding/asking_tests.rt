@@ -8,13 +8,13 @@ use crate::events_tests::{Pieces, pieces_of};
 use crate::folding_tests::Text;
 use crate::machine::Machine;
 use crate::passing::{CountedRecord, PassedRun, RunCounter, pass_records};
-use crate::running::gather_records;
+use crate::running::{gather_odd, gather_records};
 use crate::with_first::WithFirst;
 use crate::{Gatherer, fold};
 use bit_abbrev::{Abbrev, InForce};
 use bit_fields::{
-    BitReader, BufSource, Fault, FrontSource, KeptSource, Limits, PlacedBits, SliceSource, Source,
-    ValueCount, ValueTaker,
+    BitReader, BufSource, Buffered, Fault, FrontSource, KeptSource, Limits, PlacedBits,
+    SliceSource, Source, ValueCount, ValueTaker,
 };
 use std::alloc::{AllocError, Global};
 use std::io;
@@ -49,7 +49,14 @@ impl<S: Source, G: Gatherer> Folding<S, G> {
         let parts = self.reader.buffered_parts()?;
         let (start, loaded) = (parts.position(), parts.loaded());
         let (used, gatherer) = (&mut self.machine.used, &mut self.gatherer);
-        match gather_records(parts, start, loaded, frame, limits, used, gatherer, values) {
+        let gathered = if frame.definitions.has_held() {
+            gather_records(parts, start, loaded, frame, limits, used, gatherer, values)
+        } else {
+            gather_odd(Buffered::new(parts), frame, limits, used, gatherer, values).map(
+                |run| run.after,
+            )
+        };
+        match gathered {
             Ok(after) => self.reader.catch_up(after.saturating_sub(start)),
             Err(_) => Err(self.reader.fail(Fault::Memory)),
         }
