@@ -94,6 +94,7 @@ fn round(worker: &mut Worker, job: &str, round: u64) -> Option<Result<(), Fault>
     let text = TEXTS[kind as usize];
     let other = OTHERS[way as usize];
     Some(match job {
+        "inputs" => worker.inputs(artefact),
         "check" => worker.check(artefact, way % 2 == 1),
         "analyse" => worker.analyse(artefact),
         "normal" => worker.normal(object),
