@@ -140,3 +140,29 @@ impl<W: Write> Sink for WriteSink<W> {
         }
     }
 }
+
+#[cfg(test)]
+mod tests {
+    use super::*;
+
+    #[test]
+    fn worn_lists(rt: HostRuntime) {
+        let mut list = VecSink::new(rt.alloc());
+        list.failures = u64::MAX;
+        assert!(rt; list.put(&[7]) == Err(SinkFailed));
+        assert!(rt; list.bytes().is_empty() && list.failures == u64::MAX);
+    }
+
+    #[test]
+    fn worn_writers(rt: HostRuntime) {
+        let mut room = [0; 2];
+        let mut writer = WriteSink {
+            writer: room.as_mut_slice(),
+            failures: u64::MAX - 1,
+        };
+        let puts = [writer.put(&[7, 8, 9]), writer.put(&[9]), writer.put(&[9])];
+        assert!(rt; puts == [Ok(2), Ok(0), Err(SinkFailed)]);
+        let flush = writer.flush();
+        assert!(rt; flush == Err(SinkFailed) && writer.failures == u64::MAX);
+    }
+}

@@ -452,3 +452,99 @@ impl<R: BufRead> Source for BufSource<R> {
         Ok(count)
     }
 }
+
+#[cfg(test)]
+mod tests {
+    use super::*;
+
+    #[test]
+    fn worn_slices(rt: HostRuntime) {
+        let mut into = [0; 2];
+        let mut slice = SliceSource {
+            rest: &[7, 8, 9],
+            pulls: u64::MAX - 1,
+        };
+        let answers = [slice.pull(&mut into), slice.pull(&mut into)];
+        assert!(rt; answers == [Ok(2), Err(SourceFailed)]);
+        assert!(rt; slice.look() == Ok(false) && slice.pass(1) == Err(SourceFailed));
+        assert!(rt; slice.pulls == u64::MAX && slice.rest == [9].as_slice());
+    }
+
+    /// A source over three bytes with these counts.
+    fn counted_reader(pulls: u64, failures: u64) -> ReadSource<&'static [u8]> {
+        ReadSource {
+            reader: &[7, 8, 9],
+            pulls,
+            failures,
+            failure: None,
+        }
+    }
+
+    #[test]
+    fn worn_readers(rt: HostRuntime) {
+        let mut into = [0; 2];
+        for (pulls, failures) in [(5, u64::MAX), (u64::MAX, 0)] {
+            let mut reader = counted_reader(pulls, failures);
+            assert!(rt; reader.pull(&mut into) == Err(SourceFailed));
+            assert!(rt; reader.pulls == pulls && reader.failures == failures);
+            assert!(rt; reader.reader.len() == 3 && reader.failure == None);
+            let mut buffered = BufSource {
+                source: counted_reader(pulls, failures),
+            };
+            assert!(rt; buffered.look() == Ok(false) && buffered.lend().is_empty());
+            assert!(rt; buffered.pass(1) == Err(SourceFailed));
+            assert!(rt; buffered.source.pulls == pulls && buffered.into_inner().len() == 3);
+        }
+    }
+
+    #[test]
+    fn worn_words(rt: HostRuntime) {
+        let bytes = [1, 2, 3, 4, 5, 6, 7, 8, 9, 10];
+        let mut slice = SliceSource {
+            rest: &bytes,
+            pulls: u64::MAX - 1,
+        };
+        assert!(rt; pull_word(&mut slice, 2) == Ok((0x0201, 2)));
+        assert!(rt; pull_word(&mut slice, 2) == Err(SourceFailed));
+        assert!(rt; slice.pulls == u64::MAX && slice.rest.len() == 8);
+        let mut buffered = BufSource::new(bytes.as_slice());
+        assert!(rt; pull_word(&mut buffered, 2) == Ok((0x0201, 2)));
+        buffered.source.failures = u64::MAX;
+        assert!(rt; pull_word(&mut buffered, 2) == Err(SourceFailed));
+        assert!(rt; buffered.source.pulls == 1 && buffered.into_inner().len() == 8);
+    }
+
+    /// A reader that a signal interrupts every other time.
+    #[derive(Drop)]
+    struct Signalled<'a> {
+        rest: &'a [u8],
+        interrupted: bool,
+    }
+
+    impl<'a> Read for Signalled<'a> {
+        fn read(&mut self, buf: &mut [u8]) -> io::Result<usize> {
+            self.interrupted = !self.interrupted;
+            if self.interrupted {
+                return Err(IoError::from(ErrorKind::Interrupted));
+            }
+            self.rest.read(buf)
+        }
+    }
+
+    #[test]
+    fn interrupted_reads(rt: HostRuntime) {
+        let mut into = [0; 2];
+        let mut source = ReadSource::new(Signalled {
+            rest: &[7, 8, 9],
+            interrupted: false,
+        });
+        let answers = [
+            source.pull(&mut into),
+            source.pull(&mut into),
+            source.pull(&mut into),
+        ];
+        assert!(rt; answers == [Ok(2), Ok(1), Ok(0)]);
+        assert!(rt; source.pulls == 3 && source.failures == 0);
+        assert!(rt; source.failure().is_none());
+    }
+}

@@ -43,22 +43,6 @@ impl<'a> BufRead for Signalled<'a> {
 }
 
 #[test]
-fn interrupted_reads(rt: HostRuntime) {
-    let mut into = [0; 2];
-    let mut source = ReadSource::new(Signalled {
-        rest: &[7, 8, 9],
-        interrupted: false,
-    });
-    let answers = [
-        source.pull(&mut into),
-        source.pull(&mut into),
-        source.pull(&mut into),
-    ];
-    assert!(rt; answers == [Ok(2), Ok(1), Ok(0)]);
-    assert!(rt; source.failure().is_none());
-}
-
-#[test]
 fn interrupted_buffers(rt: HostRuntime) {
     let mut source = BufSource::new(Signalled {
         rest: &[1, 2, 3, 4, 5, 6, 7, 8, 9, 10],

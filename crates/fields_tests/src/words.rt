@@ -106,6 +106,130 @@ fn failures_in_steps(rt: HostRuntime) {
     }
 }
 
+/// The next `room` bytes as one number, the first one lowest.
+fn word<S: Source + Drop>(reader: &mut BitReader<S>, room: u32) -> Result<u64, Fault>
+    requires some { 0 < room }
+    requires few { room ≤ 8 }
+{
+    let low = reader.fixed(8 * room.min(4))?;
+    if room <= 4 {
+        return Ok(low);
+    }
+    Ok(low | reader.fixed(8 * (room - 4))? << 32)
+}
+
+/// The same, byte by byte.
+fn bytes_apart<S: Source + Drop>(reader: &mut BitReader<S>, room: u32) -> Result<u64, Fault>
+    requires { room ≤ 8 }
+{
+    let mut number = 0;
+    for place in 0..room {
+        number |= u64::from(reader.byte()?) << (8 * place);
+    }
+    Ok(number)
+}
+
+/// All words of `room` bytes after the magic, or the same bytes one by one, mixed into one number, and whether a read failed.
+fn mixed<S: Source + Drop>(source: S, room: u32, in_words: bool) -> (u64, bool)
+    requires some { 0 < room }
+    requires few { room ≤ 8 }
+{
+    let mut reader = match BitReader::start(source, Limits::usual()) {
+        Ok((reader, _)) => reader,
+        Err((fault, _)) => return (0, fault == Fault::Read),
+    };
+    let mut all: u64 = 0;
+    for _ in 0..100 {
+        let found = if in_words {
+            word(&mut reader, room)
+        } else {
+            bytes_apart(&mut reader, room)
+        };
+        match found {
+            Ok(number) => all = all.wrapping_mul(0x9E37_79B9_7F4A_7C15).wrapping_add(number),
+            Err(fault) => return (all, fault == Fault::Read),
+        }
+    }
+    (0, false)
+}
+
+/// The first word after the magic.
+fn first<S: Source + Drop>(source: S, room: u32) -> Result<u64, Fault>
+    requires some { 0 < room }
+    requires few { room ≤ 8 }
+{
+    match BitReader::start(source, Limits::usual()) {
+        Ok((mut reader, _)) => word(&mut reader, room),
+        Err((fault, _)) => Err(fault),
+    }
+}
+
+#[test]
+fn first_words(rt: HostRuntime) {
+    for (room, number) in [
+        (1u32, 0xF1u64),
+        (3, 0xF3_02F1),
+        (7, 0xF7_06F5_04F3_02F1),
+        (8, 0x08F7_06F5_04F3_02F1),
+    ] {
+        let (room, found) = (room.clamp(1, 8), Ok(number));
+        let cut = &INPUT[..4 + room as usize];
+        assert!(rt; first(SliceSource::new(&INPUT), room) == found, "{room}");
+        assert!(rt; first(SliceSource::new(cut), room) == found, "{room}");
+        assert!(rt; first(in_steps(&INPUT, 9, 0), room) == found, "{room}");
+        assert!(rt; first(shown_source(&INPUT, 9, 0), room) == found, "{room}");
+        assert!(rt; first(shown_source(cut, 9, 0), room) == found, "{room}");
+    }
+}
+
+#[test]
+fn slices_and_words(rt: HostRuntime) {
+    for room in 1..9u32 {
+        for length in 0..26usize {
+            let bytes = &INPUT[..length];
+            let words = mixed(SliceSource::new(bytes), room, true);
+            let apart = mixed(SliceSource::new(bytes), room, false);
+            assert!(rt; words == apart && !words.1, "{room} {length}");
+        }
+    }
+}
+
+#[test]
+fn steps_and_words(rt: HostRuntime) {
+    for room in 1..9u32 {
+        for step in 1..12usize {
+            let apart = mixed(in_steps(&INPUT, step, 0), room, false);
+            let read = mixed(in_steps(&INPUT, step, 0), room, true);
+            let shown = mixed(shown_source(&INPUT, step, 0), room, true);
+            assert!(rt; read == apart && shown == apart && !apart.1, "{room} {step}");
+        }
+    }
+}
+
+/// Whether words of a source that fails at a pull are those of the same bytes one by one, up to the failure.
+fn fail_as_apart(room: u32, step: usize, fails_at: u64) -> bool
+    requires some { 0 < room }
+    requires few { room ≤ 8 }
+    requires first { 0 < fails_at }
+    requires last { fails_at < 100 }
+{
+    let apart = mixed(in_steps(&INPUT, step, fails_at), room, false);
+    let read = mixed(in_steps(&INPUT, step, fails_at), room, true);
+    // the bytes of a pull are looked for, shown, and read or taken
+    let looked_for = mixed(shown_source(&INPUT, step, 3 * fails_at - 2), room, true);
+    let taken = mixed(shown_source(&INPUT, step, 3 * fails_at), room, true);
+    apart.1 && read == apart && looked_for == apart && taken == apart
+}
+
+#[test]
+fn failures_and_words(rt: HostRuntime) {
+    for room in 1..9u32 {
+        for (step, fails_at) in [(5, 1), (5, 2), (5, 3), (5, 5), (1, 7), (2, 5), (3, 4)] {
+            assert!(rt; fail_as_apart(room, step, fails_at), "{room} {step} {fails_at}");
+        }
+    }
+}
+
 /// Fields, and all their values: 93, 'z', 5 + 8 * 2; zeros; 200, and 3 + 4 * (3 + 4 * (3 + 4 * (2 + 4 * 1))).
 pub(crate) const FIELDS: ([u8; 7], Result<u64, Fault>) = (
     [0xDD, 0xAC, 0x05, 0, 0xC8, 0xFF, 0x1D],

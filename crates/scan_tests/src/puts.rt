@@ -236,11 +236,21 @@ fn has_numbers(rt: &impl Abort, alloc: Global, times: u32, is_json: bool) {
     assert!(rt; answer == Ok(()) && text.contains(line.as_str()), "{text}");
 }
 
-/// In a line that is written at once, and in one that is written by batches of numbers.
+/// In a line that is written at once.
 #[test]
 fn numbers_in_lines(rt: HostRuntime) {
-    for times in [1, 6] {
-        has_numbers(&rt, rt.alloc(), times, false);
-        has_numbers(&rt, rt.alloc(), times, true);
-    }
+    has_numbers(&rt, rt.alloc(), 1, false);
+}
+
+/// Numbers from 2^53 on are strings.
+#[test]
+fn numbers_as_json(rt: HostRuntime) {
+    has_numbers(&rt, rt.alloc(), 1, true);
+}
+
+/// In a line that is written by batches of numbers.
+#[test]
+fn numbers_in_batches(rt: HostRuntime) {
+    has_numbers(&rt, rt.alloc(), 6, false);
+    has_numbers(&rt, rt.alloc(), 6, true);
 }

@@ -315,6 +315,48 @@ fn short_records_read_apart(rt: HostRuntime) {
     assert!(rt; taken > 10_000, "{taken}");
 }
 
+/// Whether the record at the given bit of an input is short and its bits are taken. The next field is then the one after the record as
+/// it is read number by number.
+fn goes_on_alike(rt: &impl Abort, bytes: &[u8; 60], first: u64) -> bool {
+    let Some(bits) = placed_at(&bytes[4..], first) else {
+        return false;
+    };
+    let Some(count) = bits.plain_count() else {
+        return false;
+    };
+    if count > 7 {
+        return false;
+    }
+    let Some((_, with_id)) = bits.short_plain(count) else {
+        return false;
+    };
+    let after = bits.after(with_id.saturating_sub(2));
+    let mut buffered = buffered_at(rt, bytes, first);
+    for _ in 0..count + 2 {
+        assert!(rt; buffered.vbr(ChunkWidth { bits: 6 }).is_some());
+    }
+    assert!(rt; after.position() == buffered.position());
+    if after.has(64) {
+        let next = buffered.fixed(FieldWidth { bits: 13 });
+        assert!(rt; next == Some(after.fixed(13)));
+    }
+    true
+}
+
+#[test]
+fn windows_after_records(rt: HostRuntime) {
+    let mut taken: u64 = 0;
+    for seed in 0..1000 {
+        let bytes = made(seed);
+        for first in 0..64 {
+            if goes_on_alike(&rt, &bytes, first) {
+                taken = taken.wrapping_add(1);
+            }
+        }
+    }
+    assert!(rt; taken > 5_000, "{taken}");
+}
+
 /// The count of values of a record with these chunks first, and zeros behind them.
 fn count_of(front: u64) -> Option<u64> {
     let mut bytes = [0; 24];
@@ -401,7 +443,9 @@ fn chunks(word: u64) -> [u8; 16] {
 
 /// Chunks, how many numbers of them are looked at, how many bits these have, and whether each is in its shortest spelling. Chunks
 /// from 40 to 77 go on.
-static SIXES: [(u64, u64, u64, bool); 19] = [
+type Sixes = (u64, u64, u64, bool);
+
+static SPELLINGS: [Sixes; 12] = [
     (0o77_77_77_77_77_77_77_77_05, 1, 6, true),
     (0o77_77_77_77_77_77_77_77_00, 1, 6, true),
     (0o77_77_77_77_77_77_77_01_45, 1, 12, true),
@@ -414,6 +458,9 @@ static SIXES: [(u64, u64, u64, bool); 19] = [
     (0o20_40_40_40_40_40_40_40_41, 1, 54, true),
     (0o00_40_40_40_40_40_40_40_41, 1, 54, false),
     (0o00_00_77_37_77_37_77_00_41, 4, 48, false),
+];
+
+static SIXES: [Sixes; 7] = [
     (0o77_77_77_77_77_77_03_41_05, 2, 18, true),
     (0o77_77_77_77_00_40_03_41_05, 2, 18, true),
     (0o01_40_01_40_01_40_01_40_01, 5, 54, true),
@@ -423,11 +470,11 @@ static SIXES: [(u64, u64, u64, bool); 19] = [
     (0o01_02_03_04_05_06_07_06_05, 1, 6, true),
 ];
 
-#[test]
-fn numbers_of_six_bits(rt: HostRuntime) {
-    for (word, count, len, shortest) in &SIXES {
+/// Checks the length of these numbers, and their bits if each is in its shortest spelling.
+fn are_spelled(rt: &impl Abort, rows: &[Sixes]) {
+    for (word, count, len, shortest) in rows {
         let bytes = chunks(*word);
-        let bits = placed_at(&bytes, 0).expect(&rt, "128 bits");
+        let bits = placed_at(&bytes, 0).expect(rt, "128 bits");
         assert!(rt; bits.all_sixes(*count) == Some(*len), "{word} {count}");
         let spelled = if *shortest {
             Some((word % (1 << (*len).min(63)), *len))
@@ -438,5 +485,77 @@ fn numbers_of_six_bits(rt: HostRuntime) {
             bits.few_shortest((*count).clamp(1, 9)) == spelled,
             "{word} {count}"
         );
+    }
+}
+
+#[test]
+fn shortest(rt: HostRuntime) {
+    are_spelled(&rt, &SPELLINGS);
+}
+
+#[test]
+fn numbers_of_six_bits(rt: HostRuntime) {
+    are_spelled(&rt, &SIXES);
+}
+
+/// Numbers that end within nine chunks: how many they are, how many bits they have, and how many one number more has with them.
+#[test]
+fn counted(rt: HostRuntime) {
+    for (word, count, len, with_next) in [
+        (0o77_77_77_77_77_77_03_41_05u64, 2u64, 18u64, 60u64),
+        (0o77_77_77_77_00_40_03_41_05, 2, 18, 30),
+        (0o01_40_01_40_01_40_01_40_01, 5, 54, 60),
+        (0o01_40_40_40_40_40_40_40_40, 1, 54, 60),
+        (0o77_40_40_40_40_40_40_40_40, 0, 0, 60),
+        (0o17_77_40_40_40_40_40_40_40_40_40, 0, 0, 66),
+        (0o11_22_33_44_55_66_07_06_05_04_03, 4, 24, 30),
+        (0o11_22_33_44_55_66_07_06_05_04_03, 0, 0, 6),
+        (0o01_02_03_04_05_06_07_06_05, 8, 48, 54),
+        (0o01_02_03_04_05_06_07_06_05, 9, 54, 60),
+        (0o01_02_03_04_05_06_07_06_05, 1, 6, 12),
+        (0o02_01_02_03_04_05_06_07_06_05, 9, 54, 60),
+    ] {
+        let bytes = chunks(word);
+        let bits = placed_at(&bytes, 0).expect(&rt, "128 bits");
+        let found = (bits.all_sixes(count), bits.all_sixes(count.wrapping_add(1)));
+        assert!(rt; found == (Some(len), Some(with_next)), "{word} {count}");
+    }
+}
+
+/// Numbers of up to four chunks and longer ones, and where they end.
+#[test]
+fn short(rt: HostRuntime) {
+    let (four, five, nine) = (1u64 << 15, 1u64 << 20, 1u64 << 40);
+    for (word, count, values, len) in [
+        (
+            0o77_77_77_77_77_77_77_77_77u64,
+            0usize,
+            [0, 0, 0, 0, 0, 0],
+            0u64,
+        ),
+        (0o77_77_77_77_77_01_40_40_40, 1, [four, 0, 0, 0, 0, 0], 24),
+        (0o77_77_77_77_01_40_40_40_40, 1, [five, 0, 0, 0, 0, 0], 30),
+        (0o77_77_77_01_40_40_40_40_05, 2, [5, five, 0, 0, 0, 0], 36),
+        (0o77_01_40_40_40_40_05_05_05, 4, [5, 5, 5, five, 0, 0], 48),
+        (0o01_40_40_40_40_05_05_05_05, 5, [5, 5, 5, 5, five, 0], 54),
+        (0o01_01_40_40_40_05_05_05_05, 6, [5, 5, 5, 5, four, 1], 54),
+        (0o40_40_40_40_01_40_40_40_05, 2, [5, four, 0, 0, 0, 0], 30),
+        (
+            0o01_40_40_40_01_40_40_40_05,
+            3,
+            [5, four, four, 0, 0, 0],
+            54,
+        ),
+        (0o01_40_40_40_40_40_40_40_40, 1, [nine, 0, 0, 0, 0, 0], 54),
+    ] {
+        let mut bytes = [0; 40];
+        bytes[1..9].copy_from_slice(&word.to_le_bytes());
+        let bits = placed_at(&bytes, 8).expect(&rt, "312 bits");
+        let mut read = [0; 6];
+        let after = bits
+            .read_sixes(&mut read[..count.min(6)])
+            .expect(&rt, "numbers");
+        let place = after.position().wrapping_sub(bits.position());
+        assert!(rt; read == values && place == len, "{word} {count}");
     }
 }

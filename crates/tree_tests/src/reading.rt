@@ -626,8 +626,8 @@ static MARKED: [(&str, &str, &str); 4] = [
 ];
 
 /// The marked tree of an input, as text.
-fn shown_marked(alloc: Global, bytes: &[u8]) -> Result<String, AllocError> {
-    let (answer, _) = read(alloc, SliceSource::new(bytes), Limits::usual());
+fn shown_marked<S: Source + Drop>(alloc: Global, source: S) -> Result<String, AllocError> {
+    let (answer, _) = read(alloc, source, Limits::usual());
     match answer {
         Ok(marked) => format!(in alloc; "{marked:?}"),
         Err(fault) => told_of_fault(alloc, fault),
@@ -657,7 +657,17 @@ fn marked_trees_and_documents(rt: HostRuntime) {
         agrees(&rt, whole, document, text);
         let piped = told_of_document(rt.alloc(), in_pieces(&bytes, 5, 0));
         agrees(&rt, piped, document, text);
-        agrees(&rt, shown_marked(rt.alloc(), &bytes), marked, text);
+        let whole = shown_marked(rt.alloc(), SliceSource::new(&bytes));
+        agrees(&rt, whole, marked, text);
+    }
+}
+
+#[test]
+fn events_build_a_marked_tree(rt: HostRuntime) {
+    for (text, _, marked) in &MARKED {
+        let bytes = bytes_of(rt.alloc(), text).expect(&rt, "memory");
+        let piped = shown_marked(rt.alloc(), in_pieces(&bytes, 5, 0));
+        agrees(&rt, piped, marked, text);
     }
 }
 

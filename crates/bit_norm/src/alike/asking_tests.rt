@@ -178,14 +178,18 @@ fn other_bytes(rt: HostRuntime) {
 }
 
 #[test]
-fn other_bytes_around_arrays(rt: HostRuntime) {
+fn other_bytes_around_arrays_and_blobs(rt: HostRuntime) {
     all_alike(&rt, rt.alloc(), FIRSTS[2], false);
+    all_alike(&rt, rt.alloc(), FIRSTS[3], false);
+}
+
+#[test]
+fn other_bytes_around_arrays(rt: HostRuntime) {
     all_alike(&rt, rt.alloc(), FIRSTS[2], true);
 }
 
 #[test]
 fn other_bytes_around_blobs(rt: HostRuntime) {
-    all_alike(&rt, rt.alloc(), FIRSTS[3], false);
     all_alike(&rt, rt.alloc(), FIRSTS[3], true);
 }
 
