@@ -226,9 +226,10 @@ may_stand limits w (begins id) h = (suc w.depth, omega arith)
 may_stand limits w (holds code values) h = (0, (fitted limits w (holds code values) h).0)
 may_stand limits w ends h = (0, fitted limits w ends h)
 
-pub told_more : (call : Call) (old new : FormWriter) → fits old.limits (place_of old) call ≡ true → InRange call → Gathers IsFormOf old.builder (event_of call) new.builder
-    → place_of new ≡ after_call call (place_of old) → new.magic ≡ old.magic → new.limits ≡ old.limits → ToldMore call old new
-told_more call old new there range gathers place magic limits = record {
+pub told_more : (call : Call) (old new : FormWriter) → old.has_failed ≡ false → fits old.limits (place_of old) call ≡ true → InRange call → Gathers IsFormOf old.builder (event_of call) new.builder
+    → place_of new ≡ after_call call (place_of old) → new.magic ≡ old.magic → new.limits ≡ old.limits → new.has_failed ≡ old.has_failed → ToldMore call old new
+told_more call old new live there range gathers place magic limits failed = record {
+  live = live;
   fits = there;
   magic = magic;
   limits = limits;
@@ -242,6 +243,7 @@ told_more call old new there range gathers place magic limits = record {
         limits = was.limits ∙ sym limits;
         form = subst (λ (es : List Event). IsFormOf was.first es new.builder) (sym (map-append event_of calls (call ∷ []))) (gathers was.first (map event_of calls) may.0 was.form stands);
         place = place ∙ ap (after_call call) was.place ∙ sym (where_more calls call at_top);
+        live = failed ∙ live;
         fit = subst (λ (l : Limits). AreFit l at_top (calls ++ call ∷ [])) (sym limits) (fit_more old.limits calls call at_top was.fit at range);
         small = subst (λ (m : List ℕ). magic_number m < 2 ^ 32) (sym magic) was.small;
         capped = subst (λ (l : Limits). Capped l) (sym limits) was.capped;

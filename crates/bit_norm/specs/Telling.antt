@@ -129,6 +129,7 @@ pub record HasTold (calls : List Call) (w : FormWriter) : Type 0 where
   pub limits : first.limits ≡ w.limits
   pub form : IsFormOf first (map event_of calls) w.builder
   pub place : place_of w ≡ where_after calls at_top
+  pub live : w.has_failed ≡ false
   pub fit : AreFit w.limits at_top calls
   pub small : magic_number w.magic < 2 ^ 32
   pub bare : magic_number w.magic ≢ wrapper_magic
@@ -142,13 +143,16 @@ pub record Begins (magic : List ℕ) (limits : Limits) (w : FormWriter) : Type 0
 
 -- a writer took one call more, which fits
 pub record ToldMore (call : Call) (old new : FormWriter) : Type 0 where
+  pub live : old.has_failed ≡ false
   pub fits : fits old.limits (place_of old) call ≡ true
   pub told : (calls : List Call) → HasTold calls old → HasTold (calls ++ call ∷ []) new
   pub magic : new.magic ≡ old.magic
   pub limits : new.limits ≡ old.limits
 
--- A writer took a call; or the call does not fit, and the writer is unchanged; or an allocation failed.
+-- A writer took a call; or the call does not fit, and the writer is unchanged; or an allocation failed, in this call or in an
+-- earlier one, and then the writer is unchanged.
 abbrev pub Tells : Call → FormWriter → Result (Unit {0}) Untold → FormWriter → Type 0
 Tells call old (Ok done) new = ToldMore call old new
 Tells call old (Err Misplaced) new = (fits old.limits (place_of old) call ≡ false) × (new ≡ old)
-Tells call old (Err Memory) new = Unit {0}
+    × (old.has_failed ≡ false)
+Tells call old (Err Memory) new = (new.has_failed ≡ true) × (old.has_failed ≡ true → new ≡ old)

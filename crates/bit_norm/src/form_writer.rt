@@ -1,4 +1,4 @@
-ghost use Rattle.std.specs.Prelude.{◌≡◌, ◌==◌, ◌+◌, ◌<◌, ◌^◌, true, List, length, MatchOption};
+ghost use Rattle.std.specs.Prelude.{◌≡◌, ◌==◌, ◌+◌, ◌<◌, ◌^◌, ◌×◌, true, Err, List, length, MatchOption};
 ghost use Rattle.std.specs.List.{AllByRecursion};
 ghost use Rattle.bit_fields.specs.Opening.{magic_number};
 ghost use Rattle.bit_grammar.specs.Forest.{names_block, wrapper_magic};
@@ -97,7 +97,7 @@ impl Inside {
 /// block. An item that no tree within the limits has there is refused, and changes nothing. The writer holds the form so far, and
 /// 16 bytes for each open block.
 ///
-/// It must not be used after `Untold::Memory`.
+/// Once an allocation has failed, each call returns `Untold::Memory` and changes nothing, and `finish` returns `Failed`.
 #[derive(Drop)]
 pub struct FormWriter {
     builder: FormBuilder<'static>,
@@ -106,6 +106,8 @@ pub struct FormWriter {
     depth: u32,
     inside: Inside,
     values: u64,
+    /// Whether an allocation has failed.
+    has_failed: bool,
 }
 
 impl FormWriter {
@@ -127,6 +129,7 @@ impl FormWriter {
             depth: 0,
             inside: Inside::Any,
             values: 0,
+            has_failed: false,
         })
     }
 
@@ -147,10 +150,23 @@ impl FormWriter {
         self.depth > 0 && self.inside.takes_record(code, values) && count <= self.limits.values()
     }
 
+    /// Notes that an allocation failed.
+    #[cold]
+    fn fail(&mut self) -> Untold
+        ensures failed { self.new.has_failed ≡ true }
+        ensures why { result ≡ Untold.Memory }
+    {
+        self.has_failed = true;
+        Untold::Memory
+    }
+
     /// Begins a block.
     pub fn enter(&mut self, id: u32) -> Result<(), Untold>
         ensures { Tells (begins id) self.old result self.new }
     {
+        if self.has_failed {
+            return Err(Untold::Memory);
+        }
         if !self.fits_block(id) {
             return Err(Untold::Misplaced);
         }
@@ -160,7 +176,7 @@ impl FormWriter {
                 self.inside = Inside::of_block(id);
                 Ok(())
             }
-            Err(AllocError) => Err(Untold::Memory),
+            Err(AllocError) => Err(self.fail()),
         }
     }
 
@@ -168,6 +184,9 @@ impl FormWriter {
     pub fn record(&mut self, code: u64, values: &[u64]) -> Result<(), Untold>
         ensures { Tells (holds code values.now) self.old result self.new }
     {
+        if self.has_failed {
+            return Err(Untold::Memory);
+        }
         if !self.fits_record(code, values) {
             return Err(Untold::Misplaced);
         }
@@ -178,7 +197,7 @@ impl FormWriter {
                 self.values += values.len() as u64;
                 Ok(())
             }
-            Err(AllocError) => Err(Untold::Memory),
+            Err(AllocError) => Err(self.fail()),
         }
     }
 
@@ -186,6 +205,9 @@ impl FormWriter {
     pub fn leave(&mut self) -> Result<(), Untold>
         ensures { Tells ends self.old result self.new }
     {
+        if self.has_failed {
+            return Err(Untold::Memory);
+        }
         if self.depth == 0 {
             return Err(Untold::Misplaced);
         }
@@ -195,7 +217,7 @@ impl FormWriter {
                 self.inside = Inside::Any;
                 Ok(())
             }
-            Err(AllocError) => Err(Untold::Memory),
+            Err(AllocError) => Err(self.fail()),
         }
     }
 
@@ -222,7 +244,8 @@ impl FormWriter {
 
     /// Gives a sink the normal form of the tree, and returns its length in bytes.
     ///
-    /// `OutputTooLong`, if the form is longer than the limit on bytes, gives the sink nothing; after `Write` it has a prefix of it.
+    /// `OutputTooLong`, if the form is longer than the limit on bytes, and `Failed`, after a failed allocation, give the sink nothing;
+    /// after `Write` it has a prefix of it.
     pub fn finish<K: Sink>(self, sink: K) -> (Result<u64, Fault>, K)
         requires { (place_of self).depth ≡ 0 }
         ensures form { (calls : List Call) → HasTold calls self
@@ -230,7 +253,12 @@ impl FormWriter {
             (K.outgoing result.1) }
         ensures fit { (calls : List Call) → HasTold calls self
             → IsFit self.limits (tree_told self.magic calls) }
+        ensures over { self.has_failed ≡ true
+            → (result.0 ≡ Err Fault.Failed) × (K.outgoing result.1 ≡ K.outgoing sink) }
     {
+        if self.has_failed {
+            return (Err(Fault::Failed), sink);
+        }
         let FormWriter {
             builder,
             magic,
@@ -238,6 +266,7 @@ impl FormWriter {
             depth: _,
             inside: _,
             values: _,
+            has_failed: _,
         } = self;
         match builder.finish() {
             Some(text) => {

@@ -11,4 +11,4 @@ overflow_add-self c =
 pub returns-in-Ok : goal.returns-in-Ok
 returns-in-Ok c =
     let there : fits c.args.self.now.limits (place_of c.args.self.now) (begins c.args.id) ≡ true = sym c.fits_block.ensures.fits ∙ c.if-not-fits_block.false in
-    told_more (begins c.args.id) c.args.self.now _ there c.ranges.id.fits c.in-Ok.ensures.gathers (rw (add-one, c.of_block-self.ensures) refl) refl refl
+    told_more (begins c.args.id) c.args.self.now _ c.if-self.false there c.ranges.id.fits c.in-Ok.ensures.gathers (rw (add-one, c.of_block-self.ensures) refl) refl refl refl

@@ -10,6 +10,7 @@ returns c = record {
     limits = c.new-builder.ensures.limits;
     form = c.new-builder.ensures.form;
     place = refl;
+    live = refl;
     fit = tt;
     small = subst (λ (n : ℕ). n < 2 ^ 32) c.number_of_magic.ensures.magic c.number_of_magic.ensures.fits;
     bare = subst (λ (n : ℕ). n ≢ wrapper_magic) c.number_of_magic.ensures.magic c.if-number_of_magic-eq-WRAPPER_MAGIC.false;
