@@ -4,6 +4,7 @@
 
 mod definitions;
 mod ending;
+mod forms;
 mod inputs;
 mod streams;
 mod trees;
@@ -20,6 +21,7 @@ fn ask(rt: &HostRuntime, letter: u8) -> Ending {
         b'e' => streams::next(rt),
         b'r' | b't' | b'w' => trees::ask(rt, letter),
         b'n' => trees::document(rt.alloc()),
+        b'f' => forms::write(rt.alloc()),
         _ => Ending::Wrong,
     }
 }
