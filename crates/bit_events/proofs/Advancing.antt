@@ -35,6 +35,7 @@ use Rattle.bit_events.specs.Coming.{over as over_stage}
 use Rattle.bit_events.specs.Coming.{EndsStream, failed, Goes, GivesEvent, EndsEvents, BreaksOff, StopsEvents, event_before, end_at, end_by, told_of}
 use Rattle.bit_events.specs.Next.{LeadsOn, left_to_tell, FindsEvent, FindsEnd, FindsFault}
 use Rattle.bit_events.specs.Events.{stage_of, coming_of, Over, Shuts, Begun, DeclinesEvents}
+use Rattle.bit_events.proofs.Behind.{step_behind}
 use Rattle.bit_events.proofs.Beginnings.{outlook_begun, outlook_declined}
 
 -- ---- open blocks
@@ -178,6 +179,7 @@ finds_event limits m n event a b c h took leaves = record {
   live = took.live;
   pays = pays_both a b c h.0.goes_on took.goes_on;
   leaves = leaves_later a b c (omega (arith, h.0.position)) leaves;
+  position = step_behind limits (machine_shown m) (machine_shown n) b.position c.position event took.spells;
   told = λ tells. event_told limits m n event a b c h took tells;
   leads = leads_behind limits m n (event ∷ []) a b c h.0 (leads_event limits m n event b c took);
 }
@@ -283,6 +285,7 @@ kept_goes is_over now_over limits head m n vs ws found next place there a c e no
       depth = finds.leaves.opens;
       deepest = refl;
       held = held;
+      position = is_there ∙ finds.position;
       forward = omega (arith, here, is_there, forward);
       below = below;
       told = finds.told;

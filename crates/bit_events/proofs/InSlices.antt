@@ -22,6 +22,7 @@ use Rattle.bit_events.specs.MachineView.{machine_shown, record_of, step_shown}
 use Rattle.bit_events.specs.Next.{left_to_tell, FindsNext, FindsFault}
 use Rattle.bit_events.specs.SliceEvents.{reader_seen, SeesEvents}
 use Rattle.bit_events.proofs.Advancing.{Ready, pays_both, stops_after, loses_after, leaves_later, leads_behind, ends_behind, event_told, dead, IsLike}
+use Rattle.bit_events.proofs.Behind.{step_behind}
 use Rattle.bit_events.proofs.Runs.{advanced_both}
 
 -- ---- records that are read in place
@@ -78,6 +79,7 @@ seen_given is_over limits head m n vs list found r a b id code first after live 
       depth = ap vec_len same;
       deepest = refl;
       held = refl;
+      position = omega (arith, s.behind live, forward, step_behind limits (machine_shown m) (machine_shown n) x.position (reader_seen r b).position event taken.spells);
       forward = forward;
       below = below;
       told = λ tells. event_told limits m n event x x (reader_seen r b) ready taken tells;
@@ -127,6 +129,7 @@ finds_behind limits m n a b c list (Ok (Some step)) p (h, forward) = (
     live = h.live;
     pays = pays_both a b c p.goes_on h.pays;
     leaves = leaves_later a b c (omega (arith, p.position)) h.leaves;
+    position = h.position;
     told = λ k. same_told limits m a b p k ∙ h.told (p.goes_on.tells k);
     leads = leads_behind limits m n (step_shown n list step ∷ []) a b c p h.leads;
   },

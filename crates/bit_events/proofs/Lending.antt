@@ -33,6 +33,7 @@ remade limits m a n new list step b (made, is) finds =
       live = finds.live;
       pays = finds.pays;
       leaves = record { stands = finds.leaves.stands; opens = finds.leaves.opens; forward = finds.leaves.forward; aligned = finds.leaves.aligned; holds = held_again n made event finds.leaves.holds };
+      position = finds.position;
       told = finds.told;
       leads = record { bits = finds.leads.bits; leads = finds.leads.leads; position = finds.leads.position; end = finds.leads.end; limit = finds.leads.limit };
     } in

@@ -3,6 +3,7 @@ pub mod Framing
 pub mod Stepping
 pub mod Lending
 pub mod Telling
+pub mod Behind
 pub mod Advancing
 pub mod Beginnings
 pub mod Faults

@@ -79,6 +79,13 @@ held_after (enters o) held = held
 held_after (defines mark) held = held
 held_after (leaves after) held = held
 
+-- the bit after an event
+abbrev pub bit_behind : Event → ℕ
+bit_behind (enters o) = o.body
+bit_behind (defines mark) = mark.after
+bit_behind (notes mark) = mark.after
+bit_behind (leaves after) = after
+
 -- an event before others
 abbrev pub event_before : Event → Told → Told
 event_before event told = (event ∷ told.0, told.1)
@@ -93,6 +100,7 @@ pub record GivesEvent (old : Coming) (event : Event) (new : Coming) : Type 0 whe
   pub depth : new.depth ≡ open_after event old.depth
   pub deepest : new.deepest ≡ old.deepest
   pub held : new.held ≡ held_after event old.held
+  pub position : new.position ≡ bit_behind event
   pub forward : old.position < new.position
   pub below : new.position < 2 ^ 64
   pub told : TellsComing old → old.told ≡ event_before event new.told

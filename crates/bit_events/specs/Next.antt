@@ -10,7 +10,7 @@ use Rattle.bit_fields.specs.Devices.{known_bytes}
 use Rattle.bit_fields.specs.Reader.{Reader, TellsBytes, GoesOn, StopsReading, Loses}
 use Rattle.bit_events.specs.declared.machine.Machine.{Machine}
 use Rattle.bit_events.specs.declared.machine.Step.{Step}
-use Rattle.bit_events.specs.Coming.{EndsStream, event_before, told_of}
+use Rattle.bit_events.specs.Coming.{EndsStream, bit_behind, event_before, told_of}
 use Rattle.bit_events.specs.MachineView.{machine_shown, step_shown, LeavesMachine}
 
 -- the remaining events of the rest of a stream, and their end
@@ -33,6 +33,7 @@ pub record FindsEvent (limits : Limits) (m : Machine) (a : Reader) (event : Even
   pub live : b.live ≡ true
   pub pays : GoesOn a b
   pub leaves : LeavesMachine limits.depth m a event n b
+  pub position : b.position ≡ bit_behind event
   pub told : TellsBytes a → left_to_tell limits m a ≡ event_before event (left_to_tell limits n b)
   pub leads : LeadsOn limits m a (event ∷ []) n b
 
