@@ -53,6 +53,9 @@ mod walk;
 mod writer_laws;
 mod writing;
 
+/// The version of the normal form, as docs/FORMAT.md says what raises it.
+pub const FORM_VERSION: u32 = 1;
+
 pub use bit_grammar::{normal_once, normal_spelled};
 pub use bit_tree::{Info, RecordName};
 pub use comparing::{

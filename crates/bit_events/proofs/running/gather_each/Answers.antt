@@ -1,4 +1,4 @@
-use Rattle.std.proofs.Common.{◌≡◌, ◌-◌, IfOk, OnErr, subst, arith}
+use Rattle.std.proofs.Common.{◌-◌, IfOk, OnErr, subst, arith}
 use Rattle.std.proofs.lemmas.Result.{err_from_is_err_and}
 use Rattle.bit_fields.specs.Buffered.{BufferedBits, beyond}
 use Rattle.bit_fields.specs.BufferedParts.{bits_of_parts}

@@ -1,8 +1,7 @@
-use Rattle.std.proofs.Common.{◌≡◌, ◌+◌, ◌-◌, ◌≤◌, ◌<◌, subst, arith}
+use Rattle.std.proofs.Common.{◌≡◌, ◌+◌, ◌-◌, ◌≤◌, arith}
 use Rattle.std.proofs.lemmas.Result.{err_from_is_err_and}
-use Rattle.bit_fields.specs.Buffered.{BufferedBits, beyond}
+use Rattle.bit_fields.specs.Buffered.{beyond}
 use Rattle.bit_fields.specs.BufferedParts.{bits_of_parts}
-use Rattle.bit_events.specs.Runs.{GathersRun, StopsRun}
 use Rattle.bit_events.proofs.Counting.{run_then}
 use Rattle.bit_events.proofs.Runs.{gathers_none, stop_later}
 use Rattle.bit_events.proofs.running.gather_on.Goals as goal
