@@ -59,7 +59,7 @@ pub use limits::{BsLimits, bs_usual_limits};
 pub use operand::BsOperand;
 pub use outcome::BsFault;
 pub use reading::{bs_close, bs_fed_events, bs_next, bs_open};
-pub use reasons::{bs_reason_name, bs_version};
+pub use reasons::{bs_form_version, bs_reason_name, bs_version};
 pub use taking::bs_take;
 pub use telling::{
     bs_write_enter, bs_write_finish, bs_write_leave, bs_write_open, bs_write_record,

@@ -1,9 +1,10 @@
-//! The version of the calls, and the names of the reasons.
+//! The versions of the calls and of the normal form, and the names of the reasons.
 
 ghost use Rattle.std.specs.Prelude.{◌≡◌};
 ghost use Rattle.bit_c.specs.Naming.{IsReason, IsTextReason, Names};
 
 use bit_fields::Reason;
+use bit_norm::FORM_VERSION;
 use bit_text::TextReason;
 
 /// The version of these calls, structures and numbers: `BS_VERSION` of `capi/bitstream.h`.
@@ -12,6 +13,14 @@ pub extern "C" fn bs_version() -> u32
     ensures { result ≡ 4 }
 {
     4
+}
+
+/// The version of the normal form: `BS_FORM_VERSION` of `capi/bitstream.h`.
+#[unsafe(no_mangle)]
+pub extern "C" fn bs_form_version() -> u32
+    ensures { result ≡ FORM_VERSION }
+{
+    FORM_VERSION
 }
 
 /// The reason with this number.

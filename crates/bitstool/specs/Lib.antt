@@ -4,5 +4,7 @@ pub mod Words
 pub mod Differences
 pub mod JsonDifferences
 pub mod Outcome
+pub mod Beginning
+pub mod Tips
 pub mod Runs
 pub mod Performing

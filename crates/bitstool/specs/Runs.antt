@@ -7,6 +7,7 @@ use Rattle.bit_grammar.specs.Bits.{bits_of_bytes}
 use Rattle.bit_grammar.specs.Grammar.{at}
 use Rattle.bit_grammar.specs.Forest.{Tree}
 use Rattle.bit_grammar.specs.Blocks.{Limits}
+use Rattle.bit_grammar.specs.declared.shapes.Shapes.{Shapes}
 use Rattle.bit_grammar.specs.Input.{SpellsInput, BreaksInput, Accepts}
 use Rattle.bit_grammar.specs.Terms.{Marked}
 use Rattle.bit_grammar.specs.Normal.{HasTree, normal_form}
@@ -16,7 +17,7 @@ use Rattle.bit_grammar.specs.Texts.{listing_of}
 use Rattle.bit_grammar.specs.EventTexts.{outlook_end}
 use Rattle.bit_grammar.specs.Machine.{Ending, accepted, broke}
 use Rattle.bit_grammar.specs.Outlook.{Outlook, outlook}
-use Rattle.bit_fields.specs.Devices.{Incoming, IsWorn, Outgoing, Spends, Fails}
+use Rattle.bit_fields.specs.Devices.{GaveNone, Incoming, IsWorn, Looked, Outgoing, Spends, Fails}
 use Rattle.bit_scan.specs.declared.format.EventStyle.{EventStyle}
 use Rattle.bit_scan.specs.Analysing.{HasTally}
 use Rattle.bit_scan.specs.Styles.{report_as, styled_outlook}
@@ -35,6 +36,9 @@ use Rattle.bitstool.specs.declared.task.Explain.TheVariants.{Word}
 use Rattle.bitstool.specs.Differences.{different_text, same_text}
 use Rattle.bitstool.specs.LeftOut.{setting_for}
 use Rattle.bitstool.specs.Outcome.{status_of, line_of}
+use Rattle.bitstool.specs.declared.beginning.Beginning.{Beginning}
+use Rattle.bitstool.specs.Beginning.{BeginsLike}
+use Rattle.bitstool.specs.Tips.{tip_of}
 
 -- ---- what a command reports of its input
 
@@ -254,6 +258,25 @@ abbrev pub TellsOutcome : Outcome → ℕ → Outgoing → Outgoing → Type 0
 TellsOutcome outcome status errors last = (status ≡ status_of outcome)
     × WritesOutput (line_of outcome) errors last
 
+-- a command ends with the status of an outcome, and its line and its tip on errors
+abbrev pub TellsCommand : Shapes → Beginning → Outcome → ℕ → Outgoing → Outgoing → Type 0
+TellsCommand shapes beginning outcome status errors last = (status ≡ status_of outcome)
+    × WritesOutput (line_of outcome ++ tip_of shapes beginning outcome) errors last
+
+-- the most bytes of an input that a tip may tell of: those of the first of two inputs
+abbrev pub most_shown : Task → ℕ
+most_shown (Same first explain limits left) = first
+most_shown task = 8
+
+-- A run of a command. The input is looked at, which takes none of it, and then the command is carried out and told; or the look
+-- fails, and is told as a failed read.
+abbrev pub RunsTask : Task → Incoming → Incoming → Outgoing → Outgoing → Outgoing → Outgoing → ℕ → Type 0
+RunsTask task i now old new errors last status =
+    ((seen : Incoming) × (beginning : Beginning) × (outcome : Outcome) × Looked i seen
+    × BeginsLike i.to_come (most_shown task) beginning × Does task seen now old new outcome
+    × TellsCommand (limits_of task).shapes beginning outcome status errors last)
+    ⊎ (GaveNone i now × (new ≡ old) × TellsOutcome Read status errors last)
+
 -- a whole help text was written; or a prefix of it, because the output failed
 abbrev pub Helps : List ℕ → Outgoing → Outgoing → Outcome → Type 0
 Helps text old new Done = TookText text old new
@@ -264,8 +287,8 @@ Helps text old new outcome = ⊥
 -- with status 2; out of memory is reported. Only a command reads the input, and only a command and help write to the output.
 abbrev pub Runs : Parsed → Incoming → Incoming → Outgoing → Outgoing → Outgoing → Outgoing → ℕ
     → Type 0
-Runs (parsed.Task task) i now old new errors last status = (outcome : Outcome)
-    × Does task i now old new outcome × TellsOutcome outcome status errors last
+Runs (parsed.Task task) i now old new errors last status = RunsTask task i now old new errors last
+    status
 Runs (parsed.Help text) i now old new errors last status =
     (now ≡ i) × ((outcome : Outcome) × Helps (string_bytes text) old new outcome
     × TellsOutcome outcome status errors last)

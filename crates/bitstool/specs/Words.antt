@@ -1,15 +1,16 @@
 -- The task that the words of a command line ask for: the options that the program declares to `clap`, and how a task is read from
 -- what `clap` finds. The names `App`, `Rule`, `Shape`, `subcommand_of` and `fault_of` are clap's own. They define what a command
 -- is, and what a parse of words finds or why it fails.
-use Rattle.std.specs.Prelude.{◌≡◌, ◌⊎◌, ⊤, ℕ, ◌≤◌, nat_eq, if◌then◌else◌, List, [], ◌∷◌, ◌++◌, true, Option, Some, None, IfSome, unwrap_or, codes, string_bytes}
-use Rattle.std.specs.List.{starts_with}
+use Rattle.std.specs.Prelude.{◌≡◌, ◌⊎◌, ⊤, ℕ, ◌≤◌, nat_eq, if◌then◌else◌, List, [], ◌∷◌, ◌++◌, true, Option, Some, None, IfSome, unwrap_or, codes, decimal, string_bytes}
+use Rattle.std.specs.List.{ends_with, starts_with}
+use Rattle.std.specs.Str.{bytes_eq}
 use Rattle.clap.specs.Words.{App, Row, Rule, Text, all_of, new_app, new_rule, one_of, subcommand_of, with_rule, with_subcommand}
 use Rattle.clap.specs.Kinds.{Kinds, IsAmong}
 use Rattle.clap.specs.Faults.{fault_of}
 use Rattle.clap.specs.declared.builder.action.ArgAction.TheVariants.{Append, SetTrue}
 use Rattle.clap.specs.declared.builder.value_parser.ValueParser.TheVariants.{Unsigned}
 use Rattle.clap.specs.declared.error.kind.ErrorKind.{ErrorKind}
-use Rattle.clap.specs.declared.error.kind.ErrorKind.TheVariants.{DisplayHelp, DisplayVersion, InvalidSubcommand, OutOfMemory, UnknownArgument}
+use Rattle.clap.specs.declared.error.kind.ErrorKind.TheVariants.{DisplayHelp, DisplayVersion, InvalidSubcommand, OutOfMemory, UnknownArgument, ValueValidation}
 use Rattle.bit_grammar.specs.declared.info.RecordName.{RecordName}
 use Rattle.bit_grammar.specs.declared.shapes.Shapes.{Shapes}
 use Rattle.bit_grammar.specs.declared.shapes.Shapes.TheVariants.{AtDefinition, AtUse}
@@ -17,6 +18,7 @@ use Rattle.bit_grammar.specs.declared.value_display.ValueDisplay.{ValueDisplay}
 use Rattle.bit_grammar.specs.declared.value_display.ValueDisplay.TheVariants as values
 use Rattle.bit_grammar.specs.Blocks.{Limits}
 use Rattle.bit_grammar.specs.Normal.{most_bytes, most_depth, most_values}
+use Rattle.bit_norm.specs.declared.TheConstants.{FORM_VERSION}
 use Rattle.bit_scan.specs.declared.format.EventStyle.{EventStyle}
 use Rattle.bit_scan.specs.declared.format.Format.{Format}
 use Rattle.bit_scan.specs.declared.format.Format.TheVariants as format
@@ -259,6 +261,11 @@ TellsOf why other = ⊥
 
 -- ---- the meaning of the words
 
+-- `help` at the beginning of the words is `--help` at their end
+abbrev pub help_last : List Text → List Text
+help_last [] = []
+help_last (word ∷ rest) = if bytes_eq word (codes "help") then rest ++ codes "--help" ∷ [] else word ∷ rest
+
 -- the parse of the words by clap: the command that they name, with what is found for its options
 unfoldable pub named_by : List Text → Option (Text × List Row)
 named_by words = subcommand_of bitstool words
@@ -287,16 +294,31 @@ EndsLine text = (front : Text) × (text ≡ front ++ 10 ∷ [])
 abbrev pub input_tip : Text
 input_tip = codes "\n  tip: the input is read from standard input, as in 'bitstool check < FILE'; no file is opened,\n  so no input can make the program touch one; 'bitsame FILE OTHER' compares two files\n"
 
--- The tip after the displayed text of a fault: `input_tip`, if the fault is a word that may be the name of a file.
+-- how a number is written
+abbrev pub number_tip : Text
+number_tip = codes "\n  tip: a number is written in plain digits, as in 1073741824, and not as 1G, 1e9 or 0x10\n"
+
+-- the end of the displayed text if a word is no number
+abbrev pub no_number : Text
+no_number = codes ": invalid digit found in string\n\nFor more information, try '--help'.\n"
+
+-- The tip after the displayed text of a fault: `input_tip`, if the fault is a word that may be the name of a file; `number_tip`, if it
+-- is a word that is no number.
 abbrev pub tip_of : ErrorKind → Text → Text
 tip_of InvalidSubcommand displayed = input_tip
 tip_of UnknownArgument displayed = if starts_with nat_eq displayed (codes "error: unexpected argument '--") then [] else input_tip
+tip_of ValueValidation displayed = if ends_with nat_eq displayed no_number then number_tip else []
 tip_of kind displayed = []
 
--- The text is the displayed text, if that is known, with its tip after it, to the end of a line.
+-- what comes after the displayed text: a tip, or the version of the normal form after that of the program
+abbrev pub after_text : ErrorKind → Text → Text
+after_text DisplayVersion displayed = codes "normal form " ++ (decimal FORM_VERSION ++ codes "\n")
+after_text kind displayed = tip_of kind displayed
+
+-- The text is the displayed text, if that is known, and what comes after it, to the end of a line.
 abbrev pub Shows : Option Text → ErrorKind → (text : Text) → Type 0
 Shows output kind text = EndsLine text × ((displayed : Text) × IfSome output (λ bytes. displayed ≡ bytes)
-    × ((text ≡ displayed ++ tip_of kind displayed) ⊎ (text ≡ (displayed ++ tip_of kind displayed) ++ 10 ∷ [])))
+    × ((text ≡ displayed ++ after_text kind displayed) ⊎ (text ≡ (displayed ++ after_text kind displayed) ++ 10 ∷ [])))
 
 -- the text of a usage fault
 abbrev pub IsFaultText : Text → Type 0

@@ -7,6 +7,7 @@
 //! `clap`'s own definitions (`proofs/Walked`, `proofs/Given`).
 #![tactic(auto)]
 
+mod beginning;
 mod devices;
 mod differences;
 mod json_differences;
@@ -18,6 +19,7 @@ mod run;
 mod task;
 #[cfg(test)]
 mod tests;
+mod tips;
 
 use crate::devices::{Output, put_all};
 use crate::outcome::Outcome;

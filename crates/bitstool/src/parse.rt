@@ -1,14 +1,15 @@
 //! The meaning of the arguments, read with `clap`.
 
-ghost use Rattle.std.specs.Prelude.{◌≡◌, ◌<◌, ◌^◌, ◌↔◌, ℕ, false, map, string_bytes, IfOk, IfErr, IfSome, IsSome, IsTrue, MatchResult, Some};
+ghost use Rattle.std.specs.Prelude.{◌≡◌, ◌++◌, ◌<◌, ◌^◌, ◌↔◌, ℕ, false, map, string_bytes, IfOk, IfErr, IfSome, IsSome, IsTrue, MatchResult, OnOk, Some};
 ghost use Rattle.bitstool.specs.declared.task.Parsed.{Parsed as ParsedValue};
 ghost use Rattle.clap.specs.Words.{app_of, found_of, kind_of, rows_of, rule_of, subcommand_rows_of};
 ghost use Rattle.bitstool.specs.Words.{with_numbers, FindsAll, HasAllLimits, HasExplain, HasFormat, HasLimits, HasLeftOut, HasNumber, HasShapes, HasStyle, HasValues, IsGiven, IsNormal, IsSame, IsShow, Means, Misnamed, MisnamedIn, MisnamesIn, Says, GivesNoTask, Shows, ShowsError, TellsOf, NamesBlocks, NamesRecords};
-ghost use Rattle.bitstool.specs.Words.{for_all_commands, bitstool, flag_rule, leaving, limit_rule, with_json, with_limits, name_rule, number_rule, comparing, telling, tip_of, wrong_value};
+ghost use Rattle.bitstool.specs.Words.{for_all_commands, bitstool, flag_rule, leaving, limit_rule, with_json, with_limits, name_rule, number_rule, comparing, telling, after_text, help_last, tip_of, wrong_value};
 
 use crate::names::{Unnamed, blocks_named, records_named};
 use crate::task::{Explain, LeftOut, Parsed, Task};
 use bit_fields::{Limits, MOST_BYTES, MOST_DEPTH, MOST_VALUES, Shapes};
+use bit_norm::FORM_VERSION;
 use bit_scan::{EventStyle, Format, ValueDisplay};
 use bit_tree::RecordName;
 use clap::builder::ValueParser;
@@ -29,6 +30,7 @@ breaks the rules is refused with one line on standard error, which names the rea
 Then `events` has written the lines before the error, and the other commands have written nothing.
 
 Examples:
+  bitstool help COMMAND          the options of a command
   bitstool analyse < FILE        its kinds of blocks and records, and where its bits go
   bitstool show < FILE | less    all blocks and records, in order
   bitstool events < FILE | tail  the last items before the error in a damaged file
@@ -99,6 +101,10 @@ at most 17179869180";
 const TIP: &str = "
   tip: the input is read from standard input, as in 'bitstool check < FILE'; no file is opened,
   so no input can make the program touch one; 'bitsame FILE OTHER' compares two files
+";
+
+const NUMBER_TIP: &str = "
+  tip: a number is written in plain digits, as in 1073741824, and not as 1G, 1e9 or 0x10
 ";
 
 /// An option with a number from 0 to `most`.
@@ -496,13 +502,22 @@ fn fault_of_names(alloc: Global, why: Unnamed<'_>) -> Parsed
     }
 }
 
-/// The tip after the text of an error of this kind: where the input is read from, if a word may be the name of a file. An unknown
-/// option is none, and only the text of the error says which word it is about.
+/// The tip after the text of an error of this kind: where the input is read from, if a word may be the name of a file; how a number is
+/// written, if a word is none. An unknown option is no file, and only the text of the error says which word it is about.
 fn tip_of(kind: ErrorKind, text: &str) -> &'static str
     ensures { result.now ≡ tip_of kind text.now }
 {
     match kind {
         ErrorKind::InvalidSubcommand => TIP,
+        ErrorKind::ValueValidation => {
+            if text.ends_with(
+                ": invalid digit found in string\n\nFor more information, try '--help'.\n",
+            ) {
+                NUMBER_TIP
+            } else {
+                ""
+            }
+        }
         ErrorKind::UnknownArgument => {
             if text.starts_with("error: unexpected argument '--") {
                 ""
@@ -514,13 +529,26 @@ fn tip_of(kind: ErrorKind, text: &str) -> &'static str
     }
 }
 
-/// The text that an error displays, then its tip, and the end of the line if it is missing.
+/// Appends what comes after the text of an error of this kind: a tip, or the version of the normal form after that of the program.
+fn push_after(text: &mut String, kind: ErrorKind) -> Result<(), AllocError>
+    ensures { OnOk result (string_bytes text.new
+        ≡ string_bytes text.old ++ after_text kind (string_bytes text.old)) }
+{
+    match kind {
+        ErrorKind::DisplayVersion => write!(text, "normal form {FORM_VERSION}\n"),
+        _ => {
+            let tip = tip_of(kind, text);
+            text.push_str(tip)
+        }
+    }
+}
+
+/// The text that an error displays, what comes after it, and the end of the line if it is missing.
 fn shown<E: Display>(alloc: Global, error: &E, kind: ErrorKind) -> Result<String, AllocError>
     ensures { IfOk result (λ text. Shows (E.output error.now) kind (string_bytes text)) }
 {
     let mut text = error.to_string(alloc)?;
-    let tip = tip_of(kind, &text);
-    text.push_str(tip)?;
+    push_after(&mut text, kind)?;
     if text.ends_with('\n') {
         return Ok(text);
     }
@@ -542,8 +570,8 @@ fn text_of_error(alloc: Global, error: &Error) -> Result<Parsed, AllocError>
     Ok(Parsed::Usage(format!(in alloc; "error: {text}")?))
 }
 
-/// The meaning of these arguments.
-pub fn parse(alloc: Global, words: &[String]) -> Parsed
+/// The meaning of these arguments, which do not begin with the word `help`.
+fn meaning(alloc: Global, words: &[String]) -> Parsed
     ensures { Says (map string_bytes words.now) result }
 {
     match task(alloc, words) {
@@ -553,5 +581,28 @@ pub fn parse(alloc: Global, words: &[String]) -> Parsed
             ErrorKind::OutOfMemory => Parsed::Memory,
             _ => text_of_error(alloc, &error).unwrap_or(Parsed::Memory),
         },
+    }
+}
+
+/// The arguments, with `--help` at their end in place of the word `help` at their beginning.
+fn with_help_last(alloc: Global, mut words: Vec<String>) -> Result<Vec<String>, AllocError>
+    ensures { IfOk result (λ new. map string_bytes new.items
+        ≡ help_last (map string_bytes words.items)) }
+{
+    if words.is_empty() || words[0].as_str() != "help" {
+        return Ok(words);
+    }
+    let _ = words.remove(0);
+    words.push(String::from_str(alloc, "--help")?)?;
+    Ok(words)
+}
+
+/// The meaning of these arguments.
+pub fn parse(alloc: Global, words: Vec<String>) -> Parsed
+    ensures { Says (help_last (map string_bytes words.items)) result }
+{
+    match with_help_last(alloc, words) {
+        Ok(words) => meaning(alloc, &words),
+        Err(AllocError) => Parsed::Memory,
     }
 }

@@ -1,23 +1,25 @@
 //! The whole program, over any devices.
 
-ghost use Rattle.std.specs.Prelude.{◌≡◌, ◌≤◌, [], OnOk, map, string_bytes};
+ghost use Rattle.std.specs.Prelude.{◌≡◌, ◌≤◌, ◌++◌, [], OnOk, map, string_bytes};
 ghost use Rattle.bit_grammar.specs.Setting.{keep};
 ghost use Rattle.bit_grammar.specs.Normal.{usual_limits};
 ghost use Rattle.bitstool.specs.declared.task.LeftOut.{LeftOut as LeftOutValue};
 ghost use Rattle.bitstool.specs.declared.task.Parsed.{Parsed as ParsedValue};
 ghost use Rattle.bitstool.specs.declared.task.Task.{Task as TaskValue};
 ghost use Rattle.bitstool.specs.LeftOut.{setting_for};
-ghost use Rattle.bitstool.specs.Outcome.{status_of};
+ghost use Rattle.bitstool.specs.Outcome.{line_of, status_of};
 ghost use Rattle.bitstool.specs.Performing.{PutsAll};
-ghost use Rattle.bitstool.specs.Runs.{Helps, Runs, TellsOutcome, WritesOutput};
-ghost use Rattle.bitstool.specs.Words.{Says};
+ghost use Rattle.bitstool.specs.Runs.{Helps, Runs, RunsTask, TellsCommand, TellsOutcome, WritesOutput};
+ghost use Rattle.bitstool.specs.Words.{Says, help_last};
 
+use crate::beginning::{Beginning, look_at};
 use crate::devices::{Flush, put_all};
 use crate::outcome::Outcome;
 use crate::parse::parse;
 use crate::perform::perform;
 use crate::task::{LeftOut, Parsed, Task};
-use bit_fields::{Limits, Sink, SinkFailed, Source};
+use crate::tips::tip_of;
+use bit_fields::{Limits, Shapes, Sink, SinkFailed, Source, SourceFailed};
 use std::alloc::Global;
 
 /// The result of a run: its exit status, and the devices.
@@ -63,6 +65,64 @@ fn tell<K: Sink>(outcome: Outcome, errors: &mut K) -> u8
     outcome.status()
 }
 
+/// Writes to the errors how a command ended, with a tip.
+fn report_with_tip<K: Sink>(outcome: Outcome, tip: &str, errors: &mut K) -> Result<(), SinkFailed>
+    ensures { PutsAll (line_of outcome ++ tip.now) (K.outgoing errors.old) result
+        (K.outgoing errors.new) }
+{
+    outcome.report(errors)?;
+    put_all(errors, tip.as_bytes())
+}
+
+/// The same, by what its input begins like, and returns the status. A failure there changes nothing.
+fn tell_command<K: Sink>(
+    shapes: Shapes,
+    beginning: Beginning,
+    outcome: Outcome,
+    errors: &mut K,
+) -> u8
+    ensures { TellsCommand shapes beginning outcome result (K.outgoing errors.old)
+        (K.outgoing errors.new) }
+{
+    let _ = report_with_tip(outcome, tip_of(shapes, beginning, outcome), errors);
+    outcome.status()
+}
+
+/// Carries out a command.
+fn obey_task<S: Source, K: Flush, E: Sink>(
+    alloc: Global,
+    task: Task,
+    mut source: S,
+    sink: K,
+    errors: &mut E,
+) -> Ran<S, K>
+    ensures runs { RunsTask task (S.incoming source) (S.incoming result.source) (K.outgoing sink)
+        (K.outgoing result.sink)
+        (E.outgoing errors.old) (E.outgoing errors.new) result.status }
+    ensures handed_on { result.status ≤ 1 → K.handed_on result.sink }
+{
+    let shapes = task.limits().shapes();
+    match look_at(&mut source, task.most_shown()) {
+        Ok(beginning) => {
+            let (outcome, source, sink) = perform(alloc, task, source, sink);
+            let status = tell_command(shapes, beginning, outcome, errors);
+            Ran {
+                status,
+                source,
+                sink,
+            }
+        }
+        Err(SourceFailed) => {
+            let status = tell(Outcome::Read, errors);
+            Ran {
+                status,
+                source,
+                sink,
+            }
+        }
+    }
+}
+
 /// Does what the arguments ask for.
 fn obey<S: Source, K: Flush, E: Sink>(
     alloc: Global,
@@ -77,15 +137,7 @@ fn obey<S: Source, K: Flush, E: Sink>(
     ensures handed_on { result.status ≤ 1 → K.handed_on result.sink }
 {
     match parsed {
-        Parsed::Task(task) => {
-            let (outcome, source, sink) = perform(alloc, task, source, sink);
-            let status = tell(outcome, errors);
-            Ran {
-                status,
-                source,
-                sink,
-            }
-        }
+        Parsed::Task(task) => obey_task(alloc, task, source, sink, errors),
         Parsed::Help(text) => {
             let outcome = help(&mut sink, text.as_bytes());
             let status = tell(outcome, errors);
@@ -131,9 +183,9 @@ pub fn run<S: Source, K: Flush, E: Sink>(
         × Runs (ParsedValue.Task (TaskValue.Normal usual_limits left))
         (S.incoming source) (S.incoming result.source) (K.outgoing sink) (K.outgoing result.sink)
         (E.outgoing errors.old) (E.outgoing errors.new) result.status }
-    // With arguments it does what they ask for.
+    // With arguments it does what they ask for; `help` before them is `--help` behind them.
     ensures any { (words.items ≡ [] → ⊥) → (parsed : ParsedValue)
-        × Says (map string_bytes words.items) parsed
+        × Says (help_last (map string_bytes words.items)) parsed
         × Runs parsed (S.incoming source) (S.incoming result.source) (K.outgoing sink)
         (K.outgoing result.sink)
         (E.outgoing errors.old) (E.outgoing errors.new) result.status }
@@ -146,7 +198,7 @@ pub fn run<S: Source, K: Flush, E: Sink>(
             left: LeftOut::nothing(alloc),
         })
     } else {
-        parse(alloc, &words)
+        parse(alloc, words)
     };
     obey(alloc, parsed, source, sink, errors)
 }

@@ -89,6 +89,36 @@ pub enum Task {
     },
 }
 
+impl Task {
+    ghost use Rattle.std.specs.Prelude.{◌≡◌};
+    ghost use Rattle.bitstool.specs.Runs.{limits_of, most_shown};
+
+    /// The limits on its input.
+    pub fn limits(&self) -> Limits
+        ensures { result ≡ limits_of self.now }
+    {
+        match self {
+            Task::Check { limits } => *limits,
+            Task::Normal { limits, .. } => *limits,
+            Task::Same { limits, .. } => *limits,
+            Task::Analyse { limits, .. } => *limits,
+            Task::Show { limits, .. } => *limits,
+            Task::Events { limits, .. } => *limits,
+            Task::Assemble { limits } => *limits,
+        }
+    }
+
+    /// The most bytes at the front of its input that a tip may tell of.
+    pub fn most_shown(&self) -> u64
+        ensures { result ≡ most_shown self.now }
+    {
+        match self {
+            Task::Same { first, .. } => *first,
+            _ => 8,
+        }
+    }
+}
+
 /// The meaning of the arguments.
 #[derive(Debug, Drop)]
 pub enum Parsed {

@@ -235,17 +235,33 @@ const LITERALS: [u8; 24] = [
 static CHECKS_AND_NORMAL_FORMS: [Row; 13] = [
     ("", (&OTHER_LONG, &[]), (0, &OTHER_SHORT, "")),
     ("", (&OTHER_SHORT, &[]), (0, &OTHER_SHORT, "")),
-    ("", (&[], &[]), (1, &[], "refused: Truncated at bit 0\n")),
+    (
+        "",
+        (&[], &[]),
+        (
+            1,
+            &[],
+            "refused: Truncated at bit 0\n  tip: the input is empty, or has fewer than 4 bytes\n",
+        ),
+    ),
     ("check", (&LONG, &[]), (0, b"accepted\n", "")),
     (
         "check --bytes 15",
         (&SHORT, &[]),
-        (1, b"", "refused: TooLong at bit 120\n"),
+        (
+            1,
+            b"",
+            "refused: TooLong at bit 120\n  tip: '--bytes N' permits a longer input, of at most 17179869180 bytes\n",
+        ),
     ),
     (
         "check --depth 0",
         (&SHORT, &[]),
-        (1, b"", "refused: TooDeep at bit 32\n"),
+        (
+            1,
+            b"",
+            "refused: TooDeep at bit 32\n  tip: '--depth N' permits more levels of nested blocks, at most 255\n",
+        ),
     ),
     ("normal", (&LONG, &[]), (0, &SHORT, "")),
     (
@@ -257,12 +273,20 @@ static CHECKS_AND_NORMAL_FORMS: [Row; 13] = [
     (
         "normal --values 0",
         (&SHORT, &[]),
-        (1, b"", "refused: TooManyValues at bit 104\n"),
+        (
+            1,
+            b"",
+            "refused: TooManyValues at bit 104\n  tip: '--values N' permits more values, at most 4294967295\n",
+        ),
     ),
     (
         "normal --bytes 24",
         (&LITERALS, &[]),
-        (1, b"", "refused: normal form longer than 24 bytes\n"),
+        (
+            1,
+            b"",
+            "refused: normal form longer than 24 bytes\n  tip: '--bytes N' permits a longer normal form, of at most 17179869180 bytes\n",
+        ),
     ),
     ("check --bytes 24", (&LITERALS, &[]), (0, b"accepted\n", "")),
     ("normal", (&ZEROS, &[]), (0, &PLAIN_ZEROS, "")),
@@ -279,22 +303,38 @@ static COMPARISONS: [Row; 9] = [
     (
         "same --first 16",
         (&LONG, &[]),
-        (1, b"", "refused: second: Truncated at bit 0\n"),
+        (
+            1,
+            b"",
+            "refused: second: Truncated at bit 0\n  tip: the input is empty, or has fewer than 4 bytes\n",
+        ),
     ),
     (
         "same --first 17179869180",
         (&LONG, &[]),
-        (1, b"", "refused: second: Truncated at bit 0\n"),
+        (
+            1,
+            b"",
+            "refused: second: Truncated at bit 0\n  tip: the input is empty, or has fewer than 4 bytes\n",
+        ),
     ),
     (
         "same --first 0",
         (&LONG, &[]),
-        (1, b"", "refused: first: Truncated at bit 0\n"),
+        (
+            1,
+            b"",
+            "refused: first: Truncated at bit 0\n  tip: the input is empty, or has fewer than 4 bytes\n",
+        ),
     ),
     (
         "same --first 32 --bytes 15",
         (&SHORT, &LONG),
-        (1, b"", "refused: first: TooLong at bit 120\n"),
+        (
+            1,
+            b"",
+            "refused: first: TooLong at bit 120\n  tip: '--bytes N' permits a longer input, of at most 17179869180 bytes\n",
+        ),
     ),
     (
         "same --first 32",
@@ -580,7 +620,11 @@ static SHORT_TEXTS: [Row; 13] = [
     (
         "analyse --values 2",
         (&ZEROS, &[]),
-        (1, b"", "refused: TooManyValues at bit 129\n"),
+        (
+            1,
+            b"",
+            "refused: TooManyValues at bit 129\n  tip: '--values N' permits more values, at most 4294967295\n",
+        ),
     ),
     (
         "show",
@@ -593,12 +637,30 @@ static SHORT_TEXTS: [Row; 13] = [
 static WITHOUT_A_REPORT: [(&str, &str); 8] = [
     ("analyse", "refused: Truncated at bit 224\n"),
     ("show", "refused: Truncated at bit 224\n"),
-    ("analyse --bytes 15", "refused: TooLong at bit 120\n"),
-    ("show --bytes 15", "refused: TooLong at bit 120\n"),
-    ("analyse --depth 0", "refused: TooDeep at bit 32\n"),
-    ("show --depth 0", "refused: TooDeep at bit 32\n"),
-    ("analyse --values 0", "refused: TooManyValues at bit 104\n"),
-    ("show --values 0", "refused: TooManyValues at bit 104\n"),
+    (
+        "analyse --bytes 15",
+        "refused: TooLong at bit 120\n  tip: '--bytes N' permits a longer input, of at most 17179869180 bytes\n",
+    ),
+    (
+        "show --bytes 15",
+        "refused: TooLong at bit 120\n  tip: '--bytes N' permits a longer input, of at most 17179869180 bytes\n",
+    ),
+    (
+        "analyse --depth 0",
+        "refused: TooDeep at bit 32\n  tip: '--depth N' permits more levels of nested blocks, at most 255\n",
+    ),
+    (
+        "show --depth 0",
+        "refused: TooDeep at bit 32\n  tip: '--depth N' permits more levels of nested blocks, at most 255\n",
+    ),
+    (
+        "analyse --values 0",
+        "refused: TooManyValues at bit 104\n  tip: '--values N' permits more values, at most 4294967295\n",
+    ),
+    (
+        "show --values 0",
+        "refused: TooManyValues at bit 104\n  tip: '--values N' permits more values, at most 4294967295\n",
+    ),
 ];
 
 #[test]
@@ -660,7 +722,7 @@ check --values -1
 check --values 0x10
 check --values 1 --values 2
 check normal
-help
+help help
 check --version
 --
 ";
@@ -673,7 +735,60 @@ same --help
 analyse --help
 show -h
 events --help
+help
+help same
 ";
+
+/// Inputs that begin like files of other kinds.
+static OTHER_KINDS: [Row; 5] = [
+    (
+        "check",
+        (&[0x1f, 0x8b, 8, 0, 0, 0, 0, 0], &[]),
+        (
+            1,
+            b"",
+            "refused: TopLevel at bit 32\n  tip: this begins like a gzip file: gunzip it first\n",
+        ),
+    ),
+    (
+        "",
+        (b"hello, world\n", &[]),
+        (
+            1,
+            b"",
+            "refused: TopLevel at bit 32\n  tip: this begins like a text; a listing is for 'bitstool assemble'\n",
+        ),
+    ),
+    (
+        "same --first 16",
+        (&SHORT, b"hello, world\n"),
+        (1, b"", "refused: second: TopLevel at bit 32\n"),
+    ),
+    (
+        "same --first 3",
+        (b"hello, world\n", &SHORT),
+        (
+            1,
+            b"",
+            "refused: first: Truncated at bit 0\n  tip: the input is empty, or has fewer than 4 bytes\n",
+        ),
+    ),
+    (
+        "assemble --depth 0",
+        (b"magic 4243c0de\nblock 8\n", &[]),
+        (
+            1,
+            b"",
+            "refused: TooDeep at line 2\n  tip: '--depth N' permits more levels of nested blocks, at most 255\n",
+        ),
+    ),
+];
+
+#[test]
+fn tips_by_what_an_input_begins_like(rt: HostRuntime) -> Result<(), Fail> {
+    all_end(&rt, rt.alloc(), &OTHER_KINDS)?;
+    Ok(())
+}
 
 /// Events before a fault are on the output, with the line of the refusal on the errors. The version is written.
 #[test]
@@ -686,7 +801,7 @@ fn events_before_a_fault_and_the_version(rt: HostRuntime) -> Result<(), Fail> {
         rt.alloc(),
         "--version",
         MAGIC.as_slice(),
-        (0, b"bitstool 1.0.0\n", ""),
+        (0, b"bitstool 1.0.0\nnormal form 1\n", ""),
     )?;
     Ok(())
 }
@@ -694,7 +809,7 @@ fn events_before_a_fault_and_the_version(rt: HostRuntime) -> Result<(), Fail> {
 #[test]
 fn words_that_are_no_command_and_help(rt: HostRuntime) -> Result<(), Fail> {
     all_tell(&rt, rt.alloc(), NO_COMMANDS, 23, (2, false, true))?;
-    all_tell(&rt, rt.alloc(), HELP, 8, (0, true, false))?;
+    all_tell(&rt, rt.alloc(), HELP, 10, (0, true, false))?;
     Ok(())
 }
 
@@ -751,7 +866,11 @@ static OUTPUTS_THAT_FAIL: [(&str, (usize, bool), (u8, &[u8], &str)); 8] = [
     (
         "check --bytes 1",
         (0, true),
-        (1, b"", "refused: TooLong at bit 8\n"),
+        (
+            1,
+            b"",
+            "refused: TooLong at bit 8\n  tip: '--bytes N' permits a longer input, of at most 17179869180 bytes\n",
+        ),
     ),
 ];
 
