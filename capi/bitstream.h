@@ -112,6 +112,10 @@ struct bs_bytes {
 #define BS_VERSION 4
 uint32_t bs_version(void);
 
+/* The version of the normal form, and that of a library. Keys that are made from normal forms of the same version may be compared. */
+#define BS_FORM_VERSION 1
+uint32_t bs_form_version(void);
+
 /* Sets limits that suit most inputs: 1073741824 bytes, depth 64, 134217728 values, and shapes not judged at their use. */
 void bs_usual_limits(struct bs_limits *limits);
 

@@ -9,7 +9,7 @@ _bitstool() {
         --bytes | --depth | --values | --first | --drop-block | --drop-record) return ;;
     esac
     if [ "$COMP_CWORD" -eq 1 ]; then
-        words="check normal same analyse show events assemble --help --version"
+        words="check normal same analyse show events assemble help --help --version"
     else
         case ${COMP_WORDS[1]} in
             check) words=$limits ;;
@@ -17,6 +17,7 @@ _bitstool() {
             normal | show) words="$limits $names" ;;
             same) words="$limits $names --first --where --json" ;;
             events) words="$limits --no-values --json" ;;
+            help) [ "$COMP_CWORD" -eq 2 ] && words="check normal same analyse show events assemble" ;;
             assemble) words="--bytes --depth --values --help" ;;
         esac
     fi

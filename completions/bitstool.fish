@@ -1,5 +1,5 @@
 # Completion of bitstool's arguments for fish.
-set -l commands check normal same analyse show events assemble
+set -l commands check normal same analyse show events assemble help
 set -l some "__fish_seen_subcommand_from"
 complete -c bitstool -f
 complete -c bitstool -n "not $some $commands" -a check -d "Whether the input spells a tree of blocks and records"
@@ -9,6 +9,8 @@ complete -c bitstool -n "not $some $commands" -a analyse -d "The totals of the i
 complete -c bitstool -n "not $some $commands" -a show -d "The tree of the input"
 complete -c bitstool -n "not $some $commands" -a events -d "The events of the input as they are read"
 complete -c bitstool -n "not $some $commands" -a assemble -d "The normal form of the tree that a listing spells"
+complete -c bitstool -n "not $some $commands" -a help -d "The options of a command"
+complete -c bitstool -n "$some help" -a "check normal same analyse show events assemble"
 complete -c bitstool -n "not $some $commands" -s V -l version -d "Print the version"
 complete -c bitstool -s h -l help -d "Print help"
 complete -c bitstool -n "$some $commands" -l bytes -x -d "The most bytes of an input, and of a normal form"

@@ -160,6 +160,9 @@ class Library:
     def version(self):
         return self.calls.bs_version()
 
+    def form_version(self):
+        return self.calls.bs_form_version()
+
     def limits(self, options=()):
         """The usual limits, with those that the program's options set."""
         limits = Limits()

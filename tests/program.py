@@ -25,6 +25,10 @@ READ_FAILED = "fault: read failed\n"
 WRITE_FAILED = "fault: write failed\n"
 
 
+# The second line after a refusal or a fault, which tests/words_and_devices judges; the other scripts judge the first.
+SECOND_LINE = re.compile(r"\A((?:refused|fault): .*\n)  (?:tip|system): .*\n\Z")
+
+
 class Answer(NamedTuple):
     """How a run ended: its status (minus a signal's number if one ended it), its output, its errors."""
 
@@ -50,7 +54,7 @@ SAME = done(b"same\n")
 DIFFERENT = Answer(1, b"different\n", "")
 
 
-def run(words, given=b"", program=PROGRAM, **how):
+def run_whole(words, given=b"", program=PROGRAM, **how):
     """Runs the program with these words and this input; `how` goes to the process in place of pipes."""
     if "stdin" not in how:
         how["input"] = given
@@ -61,6 +65,12 @@ def run(words, given=b"", program=PROGRAM, **how):
     except subprocess.TimeoutExpired:
         return Answer("none, for it hangs", b"", "")
     return Answer(ran.returncode, ran.stdout or b"", (ran.stderr or b"").decode(errors="replace"))
+
+
+def run(words, given=b"", program=PROGRAM, **how):
+    """The same, without the second line after a refusal or a fault."""
+    found = run_whole(words, given, program, **how)
+    return found._replace(errors=SECOND_LINE.sub(r"\1", found.errors))
 
 
 def same(first, second, *words):

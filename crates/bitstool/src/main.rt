@@ -11,6 +11,7 @@ mod beginning;
 mod devices;
 mod differences;
 mod json_differences;
+mod keeper;
 mod names;
 mod outcome;
 mod parse;
@@ -22,6 +23,7 @@ mod tests;
 mod tips;
 
 use crate::devices::{Output, put_all};
+use crate::keeper::ErrorKeeper;
 use crate::outcome::Outcome;
 use crate::run::run;
 use bit_fields::{BufSource, WriteSink};
@@ -42,12 +44,25 @@ fn words_of(alloc: Global, rt: &HostRuntime) -> io::Result<Vec<String>> {
     Ok(words)
 }
 
+/// Writes to the errors what the system says of a failure. A failure there changes nothing.
+fn tell_system(rt: &HostRuntime, error: Option<io::Error>) {
+    if let Some(error) = error {
+        let _ = eprintln!(rt; "  system: {error}");
+    }
+}
+
 /// Runs the program on standard input, output and errors. All but the last have a buffer.
 fn run_here(alloc: Global, rt: &HostRuntime, words: Vec<String>) -> io::Result<u8> {
-    let source = BufSource::new(BufReader::with_capacity(alloc, CHUNK, rt.stdin())?);
-    let sink = Output::new(BufWriter::with_capacity(alloc, CHUNK, rt.stdout())?);
+    let reader = BufReader::with_capacity(alloc, CHUNK, ErrorKeeper::new(rt.stdin()))?;
+    let writer = BufWriter::with_capacity(alloc, CHUNK, ErrorKeeper::new(rt.stdout()))?;
     let mut errors = WriteSink::new(rt.stderr());
-    Ok(run(alloc, words, source, sink, &mut errors).status)
+    let (source, sink) = (BufSource::new(reader), Output::new(writer));
+    let ran = run(alloc, words, source, sink, &mut errors);
+    if ran.status == Outcome::Read.status() {
+        let (reader, writer) = (ran.source.into_inner(), ran.sink.into_inner());
+        tell_system(rt, writer.get_ref().error().or(reader.get_ref().error()));
+    }
+    Ok(ran.status)
 }
 
 /// Reports that the run could not begin.
