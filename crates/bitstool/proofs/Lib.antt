@@ -4,6 +4,7 @@ pub mod Walked
 pub mod Given
 pub mod Known
 pub mod Taking
+pub mod Looking
 pub mod Pushing
 pub mod Putting
 pub mod Doing

@@ -10,16 +10,12 @@ abbrev pub is_text_byte : ℕ → Bool
 is_text_byte byte = nat_eq byte 9 || nat_eq byte 10 || nat_eq byte 13
     || (nat_le 32 byte && nat_lt byte 127)
 
--- there are bytes, and all are a text's
-abbrev pub is_text : List ℕ → Bool
-is_text bytes = not (nat_eq (length bytes) 0) && list_all is_text_byte bytes
-
 -- the bytes begin with others
 abbrev pub begins : List ℕ → List ℕ → Bool
 begins bytes front = starts_with nat_eq bytes front
 
 -- what begins with these bytes
-unfoldable pub beginning_of : List ℕ → Beginning
+abbrev pub beginning_of : List ℕ → Beginning
 beginning_of bytes =
     if begins bytes (0x1f ∷ 0x8b ∷ []) then Gzip
     else if begins bytes (0xfd ∷ 0x37 ∷ 0x7a ∷ 0x58 ∷ 0x5a ∷ 0x00 ∷ []) then Xz
@@ -30,7 +26,7 @@ beginning_of bytes =
     || begins bytes (0xca ∷ 0xfe ∷ 0xba ∷ 0xbe ∷ []) then MachO
     else if begins bytes (codes "!<arch>") then Archive
     else if begins bytes (codes "; Module") then Assembly
-    else if is_text bytes then Text
+    else if not (nat_eq (length bytes) 0) && list_all is_text_byte bytes then Text
     else if begins bytes (codes "MZ") then Pe
     else Unknown
 

@@ -17,7 +17,7 @@ use Rattle.bit_grammar.specs.Texts.{listing_of}
 use Rattle.bit_grammar.specs.EventTexts.{outlook_end}
 use Rattle.bit_grammar.specs.Machine.{Ending, accepted, broke}
 use Rattle.bit_grammar.specs.Outlook.{Outlook, outlook}
-use Rattle.bit_fields.specs.Devices.{GaveNone, Incoming, IsWorn, Looked, Outgoing, Spends, Fails}
+use Rattle.bit_fields.specs.Devices.{Incoming, IsWorn, Outgoing, Spends, Fails}
 use Rattle.bit_scan.specs.declared.format.EventStyle.{EventStyle}
 use Rattle.bit_scan.specs.Analysing.{HasTally}
 use Rattle.bit_scan.specs.Styles.{report_as, styled_outlook}
@@ -268,15 +268,6 @@ abbrev pub most_shown : Task → ℕ
 most_shown (Same first explain limits left) = first
 most_shown task = 8
 
--- A run of a command. The input is looked at, which takes none of it, and then the command is carried out and told; or the look
--- fails, and is told as a failed read.
-abbrev pub RunsTask : Task → Incoming → Incoming → Outgoing → Outgoing → Outgoing → Outgoing → ℕ → Type 0
-RunsTask task i now old new errors last status =
-    ((seen : Incoming) × (beginning : Beginning) × (outcome : Outcome) × Looked i seen
-    × BeginsLike i.to_come (most_shown task) beginning × Does task seen now old new outcome
-    × TellsCommand (limits_of task).shapes beginning outcome status errors last)
-    ⊎ (GaveNone i now × (new ≡ old) × TellsOutcome Read status errors last)
-
 -- a whole help text was written; or a prefix of it, because the output failed
 abbrev pub Helps : List ℕ → Outgoing → Outgoing → Outcome → Type 0
 Helps text old new Done = TookText text old new
@@ -287,8 +278,10 @@ Helps text old new outcome = ⊥
 -- with status 2; out of memory is reported. Only a command reads the input, and only a command and help write to the output.
 abbrev pub Runs : Parsed → Incoming → Incoming → Outgoing → Outgoing → Outgoing → Outgoing → ℕ
     → Type 0
-Runs (parsed.Task task) i now old new errors last status = RunsTask task i now old new errors last
-    status
+Runs (parsed.Task task) i now old new errors last status = (outcome : Outcome)
+    × (beginning : Beginning) × Does task i now old new outcome
+    × BeginsLike i.to_come (most_shown task) beginning
+    × TellsCommand (limits_of task).shapes beginning outcome status errors last
 Runs (parsed.Help text) i now old new errors last status =
     (now ≡ i) × ((outcome : Outcome) × Helps (string_bytes text) old new outcome
     × TellsOutcome outcome status errors last)

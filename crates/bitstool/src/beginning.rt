@@ -1,8 +1,9 @@
 //! What an input begins like.
 
 ghost use Rattle.std.specs.Prelude.{◌≡◌, IfOk, OnErr, OnOk};
+ghost use Rattle.std.specs.List.{list_all};
 ghost use Rattle.bit_fields.specs.Devices.{GaveNone, Looked};
-ghost use Rattle.bitstool.specs.Beginning.{BeginsLike, beginning_of, is_text, is_text_byte};
+ghost use Rattle.bitstool.specs.Beginning.{BeginsLike, beginning_of, is_text_byte};
 
 use bit_fields::{Source, SourceFailed};
 
@@ -34,11 +35,11 @@ fn is_text_byte(byte: u8) -> bool
     byte == 9 || byte == 10 || byte == 13 || (byte >= 32 && byte < 127)
 }
 
-/// Whether there are bytes, and all are a text's.
+/// Whether all bytes are a text's.
 fn is_text(bytes: &[u8]) -> bool
-    ensures { result ≡ is_text bytes.now }
+    ensures { result ≡ list_all is_text_byte bytes.now }
 {
-    !bytes.is_empty() && bytes.iter().all(|byte| is_text_byte(*byte))
+    bytes.iter().all(|byte| is_text_byte(*byte))
 }
 
 /// What begins with these bytes.
@@ -62,7 +63,7 @@ fn beginning_of(bytes: &[u8]) -> Beginning
         Beginning::Archive
     } else if bytes.starts_with(b"; Module") {
         Beginning::Assembly
-    } else if is_text(bytes) {
+    } else if !bytes.is_empty() && is_text(bytes) {
         Beginning::Text
     } else if bytes.starts_with(b"MZ") {
         Beginning::Pe

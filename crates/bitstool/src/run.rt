@@ -9,7 +9,7 @@ ghost use Rattle.bitstool.specs.declared.task.Task.{Task as TaskValue};
 ghost use Rattle.bitstool.specs.LeftOut.{setting_for};
 ghost use Rattle.bitstool.specs.Outcome.{line_of, status_of};
 ghost use Rattle.bitstool.specs.Performing.{PutsAll};
-ghost use Rattle.bitstool.specs.Runs.{Helps, Runs, RunsTask, TellsCommand, TellsOutcome, WritesOutput};
+ghost use Rattle.bitstool.specs.Runs.{Helps, Runs, TellsCommand, TellsOutcome, WritesOutput};
 ghost use Rattle.bitstool.specs.Words.{Says, help_last};
 
 use crate::beginning::{Beginning, look_at};
@@ -96,7 +96,7 @@ fn obey_task<S: Source, K: Flush, E: Sink>(
     sink: K,
     errors: &mut E,
 ) -> Ran<S, K>
-    ensures runs { RunsTask task (S.incoming source) (S.incoming result.source) (K.outgoing sink)
+    ensures runs { Runs (ParsedValue.Task task) (S.incoming source) (S.incoming result.source) (K.outgoing sink)
         (K.outgoing result.sink)
         (E.outgoing errors.old) (E.outgoing errors.new) result.status }
     ensures handed_on { result.status ≤ 1 → K.handed_on result.sink }
