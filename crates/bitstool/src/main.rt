@@ -25,7 +25,7 @@ mod tips;
 use crate::devices::{Output, put_all};
 use crate::keeper::ErrorKeeper;
 use crate::outcome::Outcome;
-use crate::run::run;
+use crate::run::{Ran, run};
 use bit_fields::{BufSource, WriteSink};
 use std::alloc::Global;
 use std::io::{BufReader, BufWriter};
@@ -57,12 +57,16 @@ fn run_here(alloc: Global, rt: &HostRuntime, words: Vec<String>) -> io::Result<u
     let writer = BufWriter::with_capacity(alloc, CHUNK, ErrorKeeper::new(rt.stdout()))?;
     let mut errors = WriteSink::new(rt.stderr());
     let (source, sink) = (BufSource::new(reader), Output::new(writer));
-    let ran = run(alloc, words, source, sink, &mut errors);
-    if ran.status == Outcome::Read.status() {
-        let (reader, writer) = (ran.source.into_inner(), ran.sink.into_inner());
+    let Ran {
+        status,
+        source,
+        sink,
+    } = run(alloc, words, source, sink, &mut errors);
+    let (reader, writer) = (source.into_inner(), sink.into_inner());
+    if status == Outcome::Read.status() {
         tell_system(rt, writer.get_ref().error().or(reader.get_ref().error()));
     }
-    Ok(ran.status)
+    Ok(status)
 }
 
 /// Reports that the run could not begin.
