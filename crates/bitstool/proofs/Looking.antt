@@ -1,6 +1,6 @@
 -- What a command does with an input that was looked at first.
-use Rattle.std.proofs.Common.{◌≡◌, ◌∙◌, ◌⊎◌, ℕ, ◌+◌, ◌-◌, ◌^◌, ◌<◌, ◌≤◌, Bool, List, [], Some, None, max, take, drop, length, refl, ap, subst, inl, inr, arith}
-use Rattle.std.specs.Prelude.{Option, IfSome, IsSome}
+use Rattle.std.proofs.Common.{◌≡◌, ◌∙◌, ◌⊎◌, ℕ, ◌+◌, ◌-◌, ◌^◌, ◌≤◌, Bool, List, [], Some, None, max, take, drop, length, refl, ap, subst, inl, inr, arith}
+use Rattle.std.specs.Prelude.{IfSome, IsSome}
 use Rattle.std.specs.Io.KnownBytes.{Keeps}
 use Rattle.std.proofs.KnownBytes.{Keeps-refl}
 use Rattle.std.proofs.lemmas.Bool.{cases_lt}
@@ -13,19 +13,17 @@ use Rattle.bit_grammar.specs.Input.{BreaksInput, Accepts}
 use Rattle.bit_grammar.specs.Machine.{Ending}
 use Rattle.bit_grammar.specs.Normal.{HasTree}
 use Rattle.bit_grammar.specs.Outlook.{outlook}
-use Rattle.bit_grammar.specs.Size.{size_of}
-use Rattle.bit_fields.specs.Devices.{Begins, Fails, GaveNone, Incoming, IsFresh, IsWorn, Looked, Outgoing, Spends, known_bytes}
+use Rattle.bit_fields.specs.Devices.{Begins, Fails, GaveNone, Incoming, IsWorn, Looked, Outgoing, Spends, known_bytes}
 use Rattle.bit_norm.specs.declared.comparing.Which.TheVariants.{First, Second}
 use Rattle.bit_scan.specs.Analysing.{HasTally}
 use Rattle.bit_scan.specs.declared.format.EventStyle.{EventStyle}
-use Rattle.bit_text.specs.Listings.{reading_of}
 use Rattle.bitstool.specs.declared.outcome.Outcome.{Outcome}
 use Rattle.bitstool.specs.declared.outcome.Outcome.TheVariants.{Done, Different, Refused, RefusedOf, RefusedLine, TooLong, Usage, Read, Write, Memory}
 use Rattle.bitstool.specs.declared.task.Explain.TheVariants.{Word, Lines, Json}
 use Rattle.bitstool.specs.declared.task.Task.{Task}
 use Rattle.bitstool.specs.declared.task.Task.TheVariants.{Check, Normal, Same, Analyse, Show, Events, Assemble}
 use Rattle.bitstool.specs.LeftOut.{setting_for}
-use Rattle.bitstool.specs.Runs.{Answers, DifferFirst, Does, EndsAs, IsDrained, LacksMemory, LeavesOutput, LeavesRefused, LeavesUnread, Pays, PaysForRun, Refuses, StopsShort, TakesInput, TakesListing, TellsEvents, ToldBytes, WritesAnswer, most_taken}
+use Rattle.bitstool.specs.Runs.{Answers, DifferFirst, Does, EndsAs, IsDrained, LacksMemory, LeavesOutput, LeavesRefused, LeavesUnread, Pays, PaysForRun, Refuses, StopsShort, TakesListing, TellsEvents, ToldBytes, WritesAnswer, most_taken}
 use Rattle.bitstool.proofs.Taking.{fails_then, spends_then}
 
 -- the first of the bytes that a source shows are the first that it had before it was looked at
