@@ -1,4 +1,4 @@
-use Rattle.std.proofs.Common.{◌≡◌, ◌∙◌, sym, ap, true, false, length, true≢false}
+use Rattle.std.proofs.Common.{◌≡◌, sym, ap, arith, true, false, length, true≢false}
 use Rattle.std.specs.Vec.{vec_len}
 use Rattle.bitstool.proofs.run.run.Goals.{then-is_empty, else-is_empty}
 use Rattle.bitstool.proofs.run.run.Goals as goal
@@ -7,7 +7,7 @@ pub returns-clause-plain : goal.returns-clause-plain
 returns-clause-plain g c none = elim c.if-is_empty.branch [
   | then-is_empty w ↦ (w.nothing.result, w.nothing.ensures, rw (w.parsed-is, w.usual.ensures.usual) at c.obey.ensures.runs)
   | else-is_empty w ↦
-      let empty : vec_len c.args.words ≡ 0 = sym w.deref.ensures.len ∙ ap length (w.deref.ensures.value ∙ none) in
+      let empty : vec_len c.args.words ≡ 0 = omega (arith, c.args.words.ok, ap length none) in
       let bad : false ≡ true = rw empty at w.if-is_empty.ensures in
       absurd (true≢false (sym bad))
 ]
