@@ -128,8 +128,8 @@ uninstall_changed = $(uninstall_link)
 
 install: $(PROGRAM) lib
 	$(call installation,install)
-	@[ "$(DESTDIR)" ] || python3 -c 'import sys; sys.exit("$(abspath $(module_folder))" in sys.path)' \
-	    && echo 'for Python: export PYTHONPATH=$(abspath $(module_folder))' || :
+	@[ "$(DESTDIR)" ] || python3 -c 'import sys; at = "$(abspath $(module_folder))"; \
+	    at in sys.path or print("for Python: export PYTHONPATH=" + at)'
 
 # Folders that others use too stay.
 uninstall:
