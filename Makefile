@@ -120,7 +120,7 @@ install_link = ln -sf $(1) $(DESTDIR)$(2)
 install_changed = install -D -m 644 $(1) $(DESTDIR)$(2) && sed -i $(changed) $(DESTDIR)$(2)
 # The version, and where PREFIX and LIBDIR are from the folder of the file.
 changed = -e 's|@VERSION@|$(C_VERSION)|; s|@PREFIX@|$(call way,$(2),$(PREFIX)/)|' \
-    -e 's|"\.\.", "\.\."|"$(call way,$(2),$(LIBDIR))"|; s|"\.\./\.\./\.\./lib"|"$(call way,$(2),$(LIBDIR))"|'
+    -e 's|"\.\."\(, "\.\."\)*|"$(call way,$(2),$(LIBDIR))"|; s|"\.\./\.\./\.\./lib"|"$(call way,$(2),$(LIBDIR))"|'
 way = $(shell realpath -ms --relative-to=$(dir $(1)) $(2))
 uninstall_files = rm -f $(addprefix $(DESTDIR)$(2)/,$(notdir $(3)))
 uninstall_link = rm -f $(DESTDIR)$(2)
