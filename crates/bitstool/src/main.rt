@@ -2,9 +2,9 @@
 //! Begin with `run`.
 //!
 //! `parse` makes a task of the arguments, `perform` carries it out and returns how it ended, and `run` does both and writes the
-//! line to the errors, with a tip by what `look_at` saw first (`tip_of`). All work with any source and sinks; `main` alone opens standard input, output and errors. `Runs` and `Does`
-//! in `specs/` define what a run takes from the input and leaves on the output. That good arguments give a task is proved over
-//! `clap`'s own definitions (`proofs/Walked`, `proofs/Given`).
+//! line to the errors, with a tip (`tip_of`) by what `look_at` saw first. All work with any source and sinks; `main` alone opens
+//! standard input, output and errors. `Runs` and `Does` in `specs/` define what a run takes from the input and leaves on the
+//! output. That good arguments give a task is proved over `clap`'s own definitions (`proofs/Walked`, `proofs/Given`).
 #![tactic(auto)]
 
 mod beginning;
