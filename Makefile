@@ -5,6 +5,8 @@
 #                   and CMake files, the Python module, the Rust crate and the examples below PREFIX
 # make dist         packs what make install puts there into out/bitstool-VERSION-x86_64-linux.tar.gz, the same bytes on each
 #                   run; OUT names another folder than out
+# make wheel        makes a wheel there with the Python module, the C library, bitsum, bitsame and the program
+# make deb          makes a Debian package there of what make install installs
 # make bench        the program beside other tools; bench/tool says on which files
 # make test         the gate: every proof from nothing, the edits that must be refused, the scripts of tests/, and bench/counts
 # make test-program  builds the program, its tools and the C library, and runs the scripts of tests/ and bench/counts
@@ -28,7 +30,11 @@ DIST := bitstool-$(VERSION)-x86_64-linux
 OUT ?= out
 packed = $(abspath $(OUT))/$(DIST)
 
-.PHONY: all libraries lib run install dist bench test test-program
+# A Python with setuptools and wheel.
+WHEEL_PYTHON ?= $(firstword $(foreach it,python3 /usr/bin/python3,$(shell $(it) -c 'import setuptools, wheel' 2> /dev/null && echo $(it))))
+wheel_folder = $(abspath $(OUT))/wheel
+
+.PHONY: all libraries lib run install dist wheel deb bench test test-program
 all: $(PROGRAM)
 
 # Proved, built, and run once on its stored input.
@@ -89,14 +95,20 @@ place = $(DESTDIR)$(PREFIX)
 install: $(PROGRAM) lib
 	install -D $(PROGRAM) $(place)/bin/bitstool
 	install -D contrib/bitsame $(place)/bin/bitsame
+	install -D contrib/bitsum $(place)/bin/bitsum
 	install -D contrib/treemap $(place)/share/bitstream/contrib/treemap
 	install -D -m 644 man/bitstool.1 $(place)/share/man/man1/bitstool.1
 	ln -sf bitstool.1 $(place)/share/man/man1/bitsame.1
+	install -D -m 644 man/bitsum.1 $(place)/share/man/man1/bitsum.1
+	install -D -m 644 man/bitstream.3 $(place)/share/man/man3/bitstream.3
 	install -D -m 644 -t $(place)/share/doc/bitstool README.md CHANGELOG.md
 	install -D -m 644 -t $(place)/share/doc/bitstool/docs $(PAGES:%=docs/%.md)
 	install -D -m 644 completions/bitstool.bash $(place)/share/bash-completion/completions/bitstool
 	install -D -m 644 completions/_bitstool $(place)/share/zsh/site-functions/_bitstool
 	install -D -m 644 completions/bitstool.fish $(place)/share/fish/vendor_completions.d/bitstool.fish
+	install -D -m 644 completions/bitsum.bash $(place)/share/bash-completion/completions/bitsum
+	install -D -m 644 completions/_bitsum $(place)/share/zsh/site-functions/_bitsum
+	install -D -m 644 completions/bitsum.fish $(place)/share/fish/vendor_completions.d/bitsum.fish
 	install -D -m 644 capi/bitstream.h $(place)/include/bitstream.h
 	install -D -m 644 capi/out/libbitstream.a $(place)/lib/libbitstream.a
 	install -D capi/out/libbitstream.so $(place)/lib/libbitstream.so.$(C_VERSION)
@@ -121,6 +133,26 @@ dist: $(PROGRAM) lib
 	    | gzip -n -9 > $(DIST).tar.gz
 	@rm -rf $(packed)
 	@echo "packed $(packed).tar.gz" >&2
+
+# By setuptools, with one time for all files: the same bytes on each run.
+wheel: $(PROGRAM) lib
+	@[ "$(WHEEL_PYTHON)" ] || { echo "make wheel needs a Python with setuptools and wheel; WHEEL_PYTHON names it" >&2; exit 1; }
+	@rm -rf $(wheel_folder)
+	@install -D -m 644 -t $(wheel_folder) packaging/wheel/* README.md
+	@install -D -m 644 -t $(wheel_folder)/bitstream capi/python/bitstream/*.py capi/python/bitstream/py.typed
+	@for name in bitsum bitsame; do install -m 644 contrib/$$name $(wheel_folder)/bitstream/$$name.py; done
+	@install -m 755 $(PROGRAM) $(wheel_folder)/bitstream/bitstool
+	@install -m 755 capi/out/libbitstream.so $(wheel_folder)/bitstream/libbitstream.so.$(C_VERSION)
+	@cd $(wheel_folder) && SOURCE_DATE_EPOCH=315532800 $(WHEEL_PYTHON) -B -c 'import setuptools.build_meta as it; print(it.build_wheel(".."))' > made
+	@echo "packed $(abspath $(OUT))/$$(tail -n 1 $(wheel_folder)/made)" >&2
+	@rm -rf $(wheel_folder)
+
+deb: $(PROGRAM) lib
+	@rm -rf $(abspath $(OUT))/deb
+	@$(MAKE) --no-print-directory -s -o $(PROGRAM) install DESTDIR=$(abspath $(OUT))/deb PREFIX=/usr LIBDIR=/usr/lib/x86_64-linux-gnu
+	@packaging/debian/build $(VERSION) $(abspath $(OUT))/deb $(abspath $(OUT))/bitstool_$(VERSION)_amd64.deb
+	@rm -rf $(abspath $(OUT))/deb
+	@echo "packed $(abspath $(OUT))/bitstool_$(VERSION)_amd64.deb" >&2
 
 bench: $(PROGRAM)
 	bench/tool
