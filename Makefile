@@ -143,8 +143,9 @@ wheel: $(PROGRAM) lib
 	@for name in bitsum bitsame; do install -m 644 contrib/$$name $(wheel_folder)/bitstream/$$name.py; done
 	@install -m 755 $(PROGRAM) $(wheel_folder)/bitstream/bitstool
 	@install -m 755 capi/out/libbitstream.so $(wheel_folder)/bitstream/libbitstream.so.$(C_VERSION)
-	@cd $(wheel_folder) && SOURCE_DATE_EPOCH=315532800 $(WHEEL_PYTHON) -B -c 'import setuptools.build_meta as it; print(it.build_wheel(".."))' > made
-	@echo "packed $(abspath $(OUT))/$$(tail -n 1 $(wheel_folder)/made)" >&2
+	@cd $(wheel_folder) && umask 022 && SOURCE_DATE_EPOCH=315532800 $(WHEEL_PYTHON) -B \
+	    -c 'import setuptools.build_meta as it; print(it.build_wheel(".."))' > log 2>&1 || { cat log >&2; exit 1; }
+	@echo "packed $(abspath $(OUT))/$$(tail -n 1 $(wheel_folder)/log)" >&2
 	@rm -rf $(wheel_folder)
 
 deb: $(PROGRAM) lib
