@@ -3,6 +3,7 @@
 # make lib          proves the C library and builds it: capi/out/libbitstream.a and libbitstream.so
 # make install      puts the program, bitsame, their man page, completions and pages, the C library, its header, its pkg-config
 #                   and CMake files, the Python module, the Rust crate and the examples below PREFIX
+# make uninstall    removes what make install puts there, with the same PREFIX, LIBDIR and PYTHON_FOLDER
 # make dist         packs what make install puts there into out/bitstool-VERSION-x86_64-linux.tar.gz, the same bytes on each
 #                   run; OUT names another folder than out
 # make wheel        makes a wheel there with the Python module, the C library, bitsum, bitsame and the program
@@ -13,7 +14,8 @@
 PREFIX ?= /usr/local
 # The pages of docs/ for users, which are installed. The others are for those who change the project.
 PAGES := FORMAT RECIPES PROMISES COSTS
-# Where the Python module goes below PREFIX.
+# Where the library goes, with its files for pkg-config and CMake; and, below PREFIX, the Python module.
+LIBDIR ?= $(PREFIX)/lib
 PYTHON_FOLDER ?= lib/python3/dist-packages
 JOBS ?= $(shell nproc)
 PROGRAM := crates/bitstool/out/bitstool
@@ -34,7 +36,7 @@ packed = $(abspath $(OUT))/$(DIST)
 WHEEL_PYTHON ?= $(firstword $(foreach it,python3 /usr/bin/python3,$(shell $(it) -c 'import setuptools, wheel' 2> /dev/null && echo $(it))))
 wheel_folder = $(abspath $(OUT))/wheel
 
-.PHONY: all libraries lib run install dist wheel deb bench test test-program
+.PHONY: all libraries lib run install uninstall dist wheel deb bench test test-program
 all: $(PROGRAM)
 
 # Proved, built, and run once on its stored input.
@@ -91,41 +93,64 @@ capi/out/libbitstream.so: capi/out/libbitstream.a capi/bitstream.map capi/bitstr
 run: $(PROGRAM)
 	@$(PROGRAM) $(ARGS)
 
-place = $(DESTDIR)$(PREFIX)
+# The files of an installation, which `install` puts there and `uninstall` removes: some by their mode and folder, some with the
+# changes of `changed` by their place, and links by their place.
+define installation
+	$(call $(1)_files,755,$(PREFIX)/bin,$(PROGRAM) contrib/bitsame contrib/bitsum)
+	$(call $(1)_files,755,$(PREFIX)/share/bitstream/contrib,contrib/treemap)
+	$(call $(1)_files,644,$(PREFIX)/share/man/man1,man/bitstool.1 man/bitsum.1)
+	$(call $(1)_files,644,$(PREFIX)/share/man/man3,man/bitstream.3)
+	$(call $(1)_link,bitstool.1,$(PREFIX)/share/man/man1/bitsame.1)
+	$(call $(1)_files,644,$(PREFIX)/share/doc/bitstool,README.md CHANGELOG.md)
+	$(call $(1)_files,644,$(PREFIX)/share/doc/bitstool/docs,$(PAGES:%=docs/%.md))
+	$(call $(1)_changed,completions/bitstool.bash,$(PREFIX)/share/bash-completion/completions/bitstool)
+	$(call $(1)_link,bitstool,$(PREFIX)/share/bash-completion/completions/bitsame)
+	$(call $(1)_changed,completions/bitsum.bash,$(PREFIX)/share/bash-completion/completions/bitsum)
+	$(call $(1)_files,644,$(PREFIX)/share/zsh/site-functions,completions/_bitstool completions/_bitsum)
+	$(call $(1)_files,644,$(PREFIX)/share/fish/vendor_completions.d,completions/bitstool.fish completions/bitsum.fish)
+	$(call $(1)_link,bitstool.fish,$(PREFIX)/share/fish/vendor_completions.d/bitsame.fish)
+	$(call $(1)_files,644,$(PREFIX)/include,capi/bitstream.h)
+	$(call $(1)_files,644,$(LIBDIR),capi/out/libbitstream.a)
+	$(call $(1)_files,755,$(LIBDIR),capi/out/libbitstream.so.$(C_VERSION))
+	$(call $(1)_link,libbitstream.so.$(C_VERSION),$(LIBDIR)/libbitstream.so)
+	$(call $(1)_changed,capi/bitstreamConfig.cmake.in,$(LIBDIR)/cmake/bitstream/bitstreamConfig.cmake)
+	$(call $(1)_changed,capi/bitstreamConfigVersion.cmake.in,$(LIBDIR)/cmake/bitstream/bitstreamConfigVersion.cmake)
+	$(call $(1)_changed,capi/bitstream.pc.in,$(LIBDIR)/pkgconfig/bitstream.pc)
+	$(call $(1)_files,644,$(module_folder),$(filter-out %/_library.py,$(wildcard capi/python/bitstream/*.py)) capi/python/bitstream/py.typed)
+	$(call $(1)_changed,capi/python/bitstream/_library.py,$(module_folder)/_library.py)
+	$(call $(1)_files,644,$(PREFIX)/share/bitstream/examples,$(wildcard capi/examples/*))
+	$(call $(1)_files,644,$(PREFIX)/share/bitstream/rust,capi/rust/Cargo.toml)
+	$(call $(1)_changed,capi/rust/build.rs,$(PREFIX)/share/bitstream/rust/build.rs)
+	$(call $(1)_files,644,$(PREFIX)/share/bitstream/rust/src,$(wildcard capi/rust/src/*.rs))
+endef
+module_folder = $(PREFIX)/$(PYTHON_FOLDER)/bitstream
+install_files = install -D -m $(1) -t $(DESTDIR)$(2) $(3)
+install_link = ln -sf $(1) $(DESTDIR)$(2)
+install_changed = install -D -m 644 $(1) $(DESTDIR)$(2) && sed -i $(changed) $(DESTDIR)$(2)
+# The version, and where PREFIX and LIBDIR are from the folder of the file.
+changed = -e 's|@VERSION@|$(C_VERSION)|; s|@PREFIX@|$(call way,$(2),$(PREFIX)/)|' \
+    -e 's|"\.\."\(, "\.\."\)*|"$(call way,$(2),$(LIBDIR))"|; s|"\.\./\.\./\.\./lib"|"$(call way,$(2),$(LIBDIR))"|'
+way = $(shell realpath -ms --relative-to=$(dir $(1)) $(2))
+uninstall_files = rm -f $(addprefix $(DESTDIR)$(2)/,$(notdir $(3)))
+uninstall_link = rm -f $(DESTDIR)$(2)
+uninstall_changed = $(uninstall_link)
+
 install: $(PROGRAM) lib
-	install -D $(PROGRAM) $(place)/bin/bitstool
-	install -D contrib/bitsame $(place)/bin/bitsame
-	install -D contrib/bitsum $(place)/bin/bitsum
-	install -D contrib/treemap $(place)/share/bitstream/contrib/treemap
-	install -D -m 644 man/bitstool.1 $(place)/share/man/man1/bitstool.1
-	ln -sf bitstool.1 $(place)/share/man/man1/bitsame.1
-	install -D -m 644 man/bitsum.1 $(place)/share/man/man1/bitsum.1
-	install -D -m 644 man/bitstream.3 $(place)/share/man/man3/bitstream.3
-	install -D -m 644 -t $(place)/share/doc/bitstool README.md CHANGELOG.md
-	install -D -m 644 -t $(place)/share/doc/bitstool/docs $(PAGES:%=docs/%.md)
-	install -D -m 644 completions/bitstool.bash $(place)/share/bash-completion/completions/bitstool
-	install -D -m 644 completions/_bitstool $(place)/share/zsh/site-functions/_bitstool
-	install -D -m 644 completions/bitstool.fish $(place)/share/fish/vendor_completions.d/bitstool.fish
-	install -D -m 644 completions/bitsum.bash $(place)/share/bash-completion/completions/bitsum
-	install -D -m 644 completions/_bitsum $(place)/share/zsh/site-functions/_bitsum
-	install -D -m 644 completions/bitsum.fish $(place)/share/fish/vendor_completions.d/bitsum.fish
-	install -D -m 644 capi/bitstream.h $(place)/include/bitstream.h
-	install -D -m 644 capi/out/libbitstream.a $(place)/lib/libbitstream.a
-	install -D capi/out/libbitstream.so $(place)/lib/libbitstream.so.$(C_VERSION)
-	ln -sf libbitstream.so.$(C_VERSION) $(place)/lib/libbitstream.so
-	install -D -m 644 capi/bitstreamConfig.cmake $(place)/lib/cmake/bitstream/bitstreamConfig.cmake
-	mkdir -p $(place)/lib/pkgconfig
-	sed 's|@VERSION@|$(C_VERSION)|' capi/bitstreamConfigVersion.cmake.in > $(place)/lib/cmake/bitstream/bitstreamConfigVersion.cmake
-	sed 's|@VERSION@|$(C_VERSION)|' capi/bitstream.pc.in > $(place)/lib/pkgconfig/bitstream.pc
-	install -D -m 644 -t $(place)/$(PYTHON_FOLDER)/bitstream capi/python/bitstream/*.py capi/python/bitstream/py.typed
-	install -D -m 644 -t $(place)/share/bitstream/examples capi/examples/*
-	install -D -m 644 -t $(place)/share/bitstream/rust capi/rust/Cargo.toml capi/rust/build.rs
-	install -D -m 644 -t $(place)/share/bitstream/rust/src capi/rust/src/*.rs
+	$(call installation,install)
+	@[ "$(DESTDIR)" ] || python3 -c 'import sys; at = "$(abspath $(PREFIX)/$(PYTHON_FOLDER))"; \
+	    at in sys.path or print("for Python: export PYTHONPATH=" + at)'
+
+# Folders that others use too stay.
+uninstall:
+	$(call installation,uninstall)
+	@rm -rf $(DESTDIR)$(module_folder)/__pycache__
+	@find $(addprefix $(DESTDIR),$(PREFIX)/share/bitstream $(PREFIX)/share/doc/bitstool $(LIBDIR)/cmake/bitstream $(module_folder)) \
+	    -type d -empty -delete 2> /dev/null || :
 
 # Sorted names, one time, one owner: the same bytes on each run.
 dist: $(PROGRAM) lib
 	@rm -rf $(packed)
-	@$(MAKE) --no-print-directory -s -o $(PROGRAM) install DESTDIR=$(packed) PREFIX=
+	@$(MAKE) --no-print-directory -s -o $(PROGRAM) install DESTDIR=$(packed) PREFIX= LIBDIR=/lib
 	@echo "x86-64-v2 Linux, glibc $$(objdump -T $(packed)/bin/bitstool $(packed)/lib/*.so | grep -o 'GLIBC_[0-9.]*' | sort -V \
 	    | sed -n 's/GLIBC_//; $$p') or later" > $(packed)/NEEDS
 	@cd $(packed) && find * -type f ! -name SHA256SUMS | LC_ALL=C sort | xargs sha256sum > SHA256SUMS

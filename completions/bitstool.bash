@@ -1,4 +1,4 @@
-# Completion of bitstool's arguments for bash.
+# Completion of the arguments of bitstool and bitsame for bash.
 _bitstool() {
     local limits="--bytes --depth --values --shapes-at-use --help"
     local names="--drop-block --drop-record --drop-info"
@@ -8,7 +8,11 @@ _bitstool() {
         *[\<\>]) return ;;
         --bytes | --depth | --values | --first | --drop-block | --drop-record) return ;;
     esac
-    if [ "$COMP_CWORD" -eq 1 ]; then
+    if [ "${COMP_WORDS[0]##*/}" = bitsame ]; then
+        # File names, unless an option begins.
+        [[ $now == -* ]] || return
+        words="$limits $names --where --json --version"
+    elif [ "$COMP_CWORD" -eq 1 ]; then
         words="check normal same analyse show events assemble --help --version"
     else
         case ${COMP_WORDS[1]} in
@@ -22,4 +26,4 @@ _bitstool() {
     fi
     mapfile -t COMPREPLY < <(compgen -W "$words" -- "$now")
 }
-complete -o default -F _bitstool bitstool
+complete -o default -F _bitstool bitstool bitsame

@@ -1,4 +1,4 @@
-# Completion of bitstool's arguments for fish.
+# Completion of the arguments of bitstool and bitsame for fish.
 set -l commands check normal same analyse show events assemble
 set -l some "__fish_seen_subcommand_from"
 complete -c bitstool -f
@@ -22,3 +22,14 @@ complete -c bitstool -n "$some same" -l first -x -d "The number of bytes of the 
 complete -c bitstool -n "$some same" -l where -d "Report where they first differ"
 complete -c bitstool -n "$some events" -l no-values -d "Leave out the values of records"
 complete -c bitstool -n "$some same analyse events" -l json -d "Write JSON lines"
+complete -c bitsame -s V -l version -d "Print the version"
+complete -c bitsame -s h -l help -d "Print help"
+complete -c bitsame -l bytes -x -d "The most bytes of an input"
+complete -c bitsame -l depth -x -d "The most levels of nested blocks"
+complete -c bitsame -l values -x -d "The most values of all records"
+complete -c bitsame -l shapes-at-use -d "Judge the shape of a definition when a record uses it"
+complete -c bitsame -l drop-block -x -d "Leave out the blocks with this id"
+complete -c bitsame -l drop-record -x -d "Leave out the records with this code in blocks with this id, as ID:CODE"
+complete -c bitsame -l drop-info -d "Leave out the BLOCKINFO blocks"
+complete -c bitsame -l where -d "Report where they first differ"
+complete -c bitsame -l json -d "Write a line of JSON"
