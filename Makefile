@@ -6,6 +6,8 @@
 # make uninstall    removes what make install puts there, with the same PREFIX, LIBDIR and PYTHON_FOLDER
 # make dist         packs what make install puts there into out/bitstool-VERSION-x86_64-linux.tar.gz, the same bytes on each
 #                   run; OUT names another folder than out
+# make wheel        makes a wheel there with the Python module, the C library, bitsum, bitsame and the program
+# make deb          makes a Debian package there of what make install installs
 # make bench        the program beside other tools; bench/tool says on which files
 # make test         the gate: every proof from nothing, the edits that must be refused, the scripts of tests/, and bench/counts
 # make test-program  builds the program, its tools and the C library, and runs the scripts of tests/ and bench/counts
@@ -30,7 +32,11 @@ DIST := bitstool-$(VERSION)-x86_64-linux
 OUT ?= out
 packed = $(abspath $(OUT))/$(DIST)
 
-.PHONY: all libraries lib run install uninstall dist bench test test-program
+# A Python with setuptools and wheel.
+WHEEL_PYTHON ?= $(firstword $(foreach it,python3 /usr/bin/python3,$(shell $(it) -c 'import setuptools, wheel' 2> /dev/null && echo $(it))))
+wheel_folder = $(abspath $(OUT))/wheel
+
+.PHONY: all libraries lib run install uninstall dist wheel deb bench test test-program
 all: $(PROGRAM)
 
 # Proved, built, and run once on its stored input.
@@ -90,16 +96,18 @@ run: $(PROGRAM)
 # The files of an installation, which `install` puts there and `uninstall` removes: some by their mode and folder, some with the
 # changes of `changed` by their place, and links by their place.
 define installation
-	$(call $(1)_files,755,$(PREFIX)/bin,$(PROGRAM) contrib/bitsame)
+	$(call $(1)_files,755,$(PREFIX)/bin,$(PROGRAM) contrib/bitsame contrib/bitsum)
 	$(call $(1)_files,755,$(PREFIX)/share/bitstream/contrib,contrib/treemap)
-	$(call $(1)_files,644,$(PREFIX)/share/man/man1,man/bitstool.1)
+	$(call $(1)_files,644,$(PREFIX)/share/man/man1,man/bitstool.1 man/bitsum.1)
+	$(call $(1)_files,644,$(PREFIX)/share/man/man3,man/bitstream.3)
 	$(call $(1)_link,bitstool.1,$(PREFIX)/share/man/man1/bitsame.1)
 	$(call $(1)_files,644,$(PREFIX)/share/doc/bitstool,README.md CHANGELOG.md)
 	$(call $(1)_files,644,$(PREFIX)/share/doc/bitstool/docs,$(PAGES:%=docs/%.md))
 	$(call $(1)_changed,completions/bitstool.bash,$(PREFIX)/share/bash-completion/completions/bitstool)
 	$(call $(1)_link,bitstool,$(PREFIX)/share/bash-completion/completions/bitsame)
-	$(call $(1)_files,644,$(PREFIX)/share/zsh/site-functions,completions/_bitstool)
-	$(call $(1)_files,644,$(PREFIX)/share/fish/vendor_completions.d,completions/bitstool.fish)
+	$(call $(1)_changed,completions/bitsum.bash,$(PREFIX)/share/bash-completion/completions/bitsum)
+	$(call $(1)_files,644,$(PREFIX)/share/zsh/site-functions,completions/_bitstool completions/_bitsum)
+	$(call $(1)_files,644,$(PREFIX)/share/fish/vendor_completions.d,completions/bitstool.fish completions/bitsum.fish)
 	$(call $(1)_link,bitstool.fish,$(PREFIX)/share/fish/vendor_completions.d/bitsame.fish)
 	$(call $(1)_files,644,$(PREFIX)/include,capi/bitstream.h)
 	$(call $(1)_files,644,$(LIBDIR),capi/out/libbitstream.a)
@@ -108,13 +116,14 @@ define installation
 	$(call $(1)_changed,capi/bitstreamConfig.cmake.in,$(LIBDIR)/cmake/bitstream/bitstreamConfig.cmake)
 	$(call $(1)_changed,capi/bitstreamConfigVersion.cmake.in,$(LIBDIR)/cmake/bitstream/bitstreamConfigVersion.cmake)
 	$(call $(1)_changed,capi/bitstream.pc.in,$(LIBDIR)/pkgconfig/bitstream.pc)
-	$(call $(1)_changed,capi/python/bitstream.py,$(module_folder)/bitstream.py)
+	$(call $(1)_files,644,$(module_folder),$(filter-out %/_library.py,$(wildcard capi/python/bitstream/*.py)) capi/python/bitstream/py.typed)
+	$(call $(1)_changed,capi/python/bitstream/_library.py,$(module_folder)/_library.py)
 	$(call $(1)_files,644,$(PREFIX)/share/bitstream/examples,$(wildcard capi/examples/*))
 	$(call $(1)_files,644,$(PREFIX)/share/bitstream/rust,capi/rust/Cargo.toml)
 	$(call $(1)_changed,capi/rust/build.rs,$(PREFIX)/share/bitstream/rust/build.rs)
 	$(call $(1)_files,644,$(PREFIX)/share/bitstream/rust/src,$(wildcard capi/rust/src/*.rs))
 endef
-module_folder = $(PREFIX)/$(PYTHON_FOLDER)
+module_folder = $(PREFIX)/$(PYTHON_FOLDER)/bitstream
 install_files = install -D -m $(1) -t $(DESTDIR)$(2) $(3)
 install_link = ln -sf $(1) $(DESTDIR)$(2)
 install_changed = install -D -m 644 $(1) $(DESTDIR)$(2) && sed -i $(changed) $(DESTDIR)$(2)
@@ -128,13 +137,15 @@ uninstall_changed = $(uninstall_link)
 
 install: $(PROGRAM) lib
 	$(call installation,install)
-	@[ "$(DESTDIR)" ] || python3 -c 'import sys; at = "$(abspath $(module_folder))"; \
+	@[ "$(DESTDIR)" ] || python3 -c 'import sys; at = "$(abspath $(PREFIX)/$(PYTHON_FOLDER))"; \
 	    at in sys.path or print("for Python: export PYTHONPATH=" + at)'
 
 # Folders that others use too stay.
 uninstall:
 	$(call installation,uninstall)
-	@find $(addprefix $(DESTDIR),$(PREFIX)/share/bitstream $(PREFIX)/share/doc/bitstool $(LIBDIR)/cmake/bitstream) -type d -empty -delete 2> /dev/null || :
+	@rm -rf $(DESTDIR)$(module_folder)/__pycache__
+	@find $(addprefix $(DESTDIR),$(PREFIX)/share/bitstream $(PREFIX)/share/doc/bitstool $(LIBDIR)/cmake/bitstream $(module_folder)) \
+	    -type d -empty -delete 2> /dev/null || :
 
 # Sorted names, one time, one owner: the same bytes on each run.
 dist: $(PROGRAM) lib
@@ -147,6 +158,27 @@ dist: $(PROGRAM) lib
 	    | gzip -n -9 > $(DIST).tar.gz
 	@rm -rf $(packed)
 	@echo "packed $(packed).tar.gz" >&2
+
+# By setuptools, with one time for all files: the same bytes on each run.
+wheel: $(PROGRAM) lib
+	@[ "$(WHEEL_PYTHON)" ] || { echo "make wheel needs a Python with setuptools and wheel; WHEEL_PYTHON names it" >&2; exit 1; }
+	@rm -rf $(wheel_folder)
+	@install -D -m 644 -t $(wheel_folder) packaging/wheel/* README.md
+	@install -D -m 644 -t $(wheel_folder)/bitstream capi/python/bitstream/*.py capi/python/bitstream/py.typed
+	@for name in bitsum bitsame; do install -m 644 contrib/$$name $(wheel_folder)/bitstream/$$name.py; done
+	@install -m 755 $(PROGRAM) $(wheel_folder)/bitstream/bitstool
+	@install -m 755 capi/out/libbitstream.so $(wheel_folder)/bitstream/libbitstream.so.$(C_VERSION)
+	@cd $(wheel_folder) && umask 022 && SOURCE_DATE_EPOCH=315532800 $(WHEEL_PYTHON) -B \
+	    -c 'import setuptools.build_meta as it; print(it.build_wheel(".."))' > log 2>&1 || { cat log >&2; exit 1; }
+	@echo "packed $(abspath $(OUT))/$$(tail -n 1 $(wheel_folder)/log)" >&2
+	@rm -rf $(wheel_folder)
+
+deb: $(PROGRAM) lib
+	@rm -rf $(abspath $(OUT))/deb
+	@$(MAKE) --no-print-directory -s -o $(PROGRAM) install DESTDIR=$(abspath $(OUT))/deb PREFIX=/usr LIBDIR=/usr/lib/x86_64-linux-gnu
+	@packaging/debian/build $(VERSION) $(abspath $(OUT))/deb $(abspath $(OUT))/bitstool_$(VERSION)_amd64.deb
+	@rm -rf $(abspath $(OUT))/deb
+	@echo "packed $(abspath $(OUT))/bitstool_$(VERSION)_amd64.deb" >&2
 
 bench: $(PROGRAM)
 	bench/tool
