@@ -105,7 +105,7 @@ install: $(PROGRAM) lib
 	mkdir -p $(place)/lib/pkgconfig
 	sed 's|@VERSION@|$(C_VERSION)|' capi/bitstreamConfigVersion.cmake.in > $(place)/lib/cmake/bitstream/bitstreamConfigVersion.cmake
 	sed 's|@VERSION@|$(C_VERSION)|' capi/bitstream.pc.in > $(place)/lib/pkgconfig/bitstream.pc
-	install -D -m 644 capi/python/bitstream.py $(place)/$(PYTHON_FOLDER)/bitstream.py
+	install -D -m 644 -t $(place)/$(PYTHON_FOLDER)/bitstream capi/python/bitstream/*.py capi/python/bitstream/py.typed
 	install -D -m 644 -t $(place)/share/bitstream/examples capi/examples/*
 	install -D -m 644 -t $(place)/share/bitstream/rust capi/rust/Cargo.toml capi/rust/build.rs
 	install -D -m 644 -t $(place)/share/bitstream/rust/src capi/rust/src/*.rs

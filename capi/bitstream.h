@@ -11,7 +11,7 @@
    - malloc, realloc and free of the program are of one allocator, and align a block to each power of two up to 16 that divides
      its size. No call is made from a signal handler, or from the forked child of a process with threads.
 
-   Calls in several threads do not disturb each other. A handle is used only by the thread that opened it, one call at a time.
+   Calls in several threads do not disturb each other. A handle is used by one call at a time, in any thread.
    No call keeps a pointer that it is passed, except bs_open.
 
    Costs of a call. Reading an input takes time in proportion to its bytes and its values. An array of values that take no bits can

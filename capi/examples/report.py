@@ -5,7 +5,7 @@ import sys
 import bitstream
 
 
-def main():
+def main() -> None:
     with open(sys.argv[1], "rb") as file:
         given = file.read()
     try:

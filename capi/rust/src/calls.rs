@@ -26,6 +26,7 @@ pub struct Bytes {
 }
 
 #[repr(C)]
+#[derive(Debug)]
 pub struct Handle {
     pub live: bool,
     pub inner: *mut c_void,
@@ -99,6 +100,7 @@ pub type Hold = unsafe extern "C" fn(*const u8, usize, &Limits, &LeftOut, &mut H
 
 #[rustfmt::skip]
 extern "C" {
+    pub fn bs_form_version() -> u32;
     pub fn bs_usual_limits(limits: &mut Limits);
     pub fn bs_reason_name(number: u32, name: &mut Bytes);
     pub fn bs_check(bytes: *const u8, len: usize, limits: &Limits, fault: &mut Fault) -> u32;

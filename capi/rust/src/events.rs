@@ -1,6 +1,6 @@
 //! The events of an input.
 use crate::calls::{self, Fault};
-use crate::{ended, Error, Held, Limits};
+use crate::{ended, room_of, Error, Held, Limits};
 use std::marker::PhantomData;
 
 /// An event: `first` is its first bit, `after` the bit after it.
@@ -36,6 +36,10 @@ fn operand_of(it: &calls::Operand) -> Operand {
 }
 
 /// Iterates over the events of an input. If the input is refused, it gives those before the fault, and then the error once.
+///
+/// A record has as many values as the limit permits, 8 bytes each, also if they take no bits of the input: with the usual limits up
+/// to 1 GiB. `Error::Memory` if an allocation fails.
+#[derive(Debug)]
 pub struct Events<'a> {
     held: Held,
     over: bool,
@@ -57,7 +61,7 @@ impl<'a> Events<'a> {
     }
 
     fn values(&mut self, count: usize) -> Result<Vec<u64>, Error> {
-        let (mut values, mut needed, mut fault) = (vec![0; count], 0, Fault::default());
+        let (mut values, mut needed, mut fault) = (room_of(count)?, 0, Fault::default());
         // SAFETY: the room is initialised, and borrowed alone.
         let status = unsafe { calls::bs_values(&mut self.held.0, values.as_mut_ptr(), count, &mut needed, &mut fault) };
         ended(status, &fault)?;
@@ -76,7 +80,7 @@ impl<'a> Events<'a> {
         let (mut needed, mut fault) = (0, Fault::default());
         // SAFETY: an empty room may have any pointer.
         unsafe { calls::bs_operands(&mut self.held.0, std::ptr::null_mut(), 0, &mut needed, &mut fault) };
-        let mut room = vec![calls::Operand::default(); needed];
+        let mut room: Vec<calls::Operand> = room_of(needed)?;
         // SAFETY: the room is initialised, and borrowed alone.
         let status = unsafe { calls::bs_operands(&mut self.held.0, room.as_mut_ptr(), needed, &mut needed, &mut fault) };
         ended(status, &fault)?;

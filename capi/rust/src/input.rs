@@ -4,6 +4,7 @@ use crate::{compared, difference, ended, Difference, Error, Events, Held, LeftOu
 use std::io;
 
 /// An input that comes in pieces, as by `std::io::copy`. All of it is kept.
+#[derive(Debug)]
 pub struct Input(Held);
 
 impl Input {

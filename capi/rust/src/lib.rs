@@ -10,6 +10,8 @@
 //! The archive `libbitstream.a` is linked in. It is in `PREFIX/lib`, or in the folder that the variable `BITSTREAM_LIBRARY` names, by
 //! itself or by a file in it; a relative name begins in the folder of this crate's `Cargo.toml`. In the source tree that variable is
 //! needed: `BITSTREAM_LIBRARY=../out cargo test`, after `make lib`. A build fails if the archive has another version than this crate.
+//!
+//! An [`Input`], [`Writer`], [`Events`] or [`Text`] may be moved to another thread.
 mod calls;
 mod difference;
 mod events;
@@ -26,7 +28,7 @@ use std::{fmt, io};
 
 /// The limits on an input; the default is the usual limits.
 #[repr(C)]
-#[derive(Clone, Copy, Debug)]
+#[derive(Clone, Copy, Debug, PartialEq, Eq)]
 pub struct Limits {
     pub bytes: u64,
     pub depth: u32,
@@ -52,7 +54,7 @@ pub struct RecordName {
 }
 
 /// What is left out: BLOCKINFO blocks, blocks by their ids, and records by their names.
-#[derive(Clone, Copy, Debug, Default)]
+#[derive(Clone, Copy, Debug, Default, PartialEq, Eq)]
 pub struct LeftOut<'a> {
     pub info: bool,
     pub blocks: &'a [u32],
@@ -153,8 +155,26 @@ fn compared(status: u32, fault: &Fault) -> Result<bool, Error> {
     })
 }
 
+/// The version of the normal form that the library writes. A key made of a form is valid as long as it is the same.
+pub fn form_version() -> u32 {
+    // SAFETY: it takes nothing.
+    unsafe { calls::bs_form_version() }
+}
+
+/// Room for a number of elements, if there is memory for it.
+fn room_of<T: Clone + Default>(count: usize) -> Result<Vec<T>, Error> {
+    let mut room = Vec::new();
+    room.try_reserve_exact(count).map_err(|_| Error::Memory)?;
+    room.resize(count, T::default());
+    Ok(room)
+}
+
 /// An open handle, which is closed when it is dropped.
+#[derive(Debug)]
 struct Held(Handle);
+
+// SAFETY: the library keeps nothing for a thread, and what a handle holds is reached by this handle alone.
+unsafe impl Send for Held {}
 
 impl Held {
     fn closed() -> Held {
@@ -169,7 +189,7 @@ impl Held {
             if ended(status, &fault)? {
                 return Ok(text);
             }
-            text.resize(needed, 0);
+            text = room_of(needed)?;
         }
     }
 }
@@ -190,6 +210,7 @@ pub fn check(bytes: &[u8], limits: &Limits) -> Result<(), Error> {
 }
 
 /// A text that the library holds. Reading gives its bytes from the first to the last, and never fails.
+#[derive(Debug)]
 pub struct Text(Held);
 
 impl Text {

@@ -3,6 +3,7 @@ use crate::calls::{self, Fault, Magic};
 use crate::{ended, Error, Held, Limits, Text};
 
 /// Writes the normal form of a tree item by item. `Error::Unfit` changes nothing; another error closes the writer.
+#[derive(Debug)]
 pub struct Writer(Held);
 
 impl Writer {

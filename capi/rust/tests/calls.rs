@@ -1,5 +1,5 @@
 //! Each call, on a stream of one record that is abbreviated in no way, and on a broken one.
-use bitstream::{assemble, check, first_difference, normal, report, same, show, Error, Event, Events, Input, LeftOut, Limits, Operand, RecordName, Standing, Text, Which, Writer};
+use bitstream::{assemble, check, first_difference, form_version, normal, report, same, show, Error, Event, Events, Input, LeftOut, Limits, Operand, RecordName, Standing, Text, Which, Writer};
 use std::io::{BufReader, Read, Write};
 
 /// A block with id 8 whose ids are 3 bits wide, and in it record 1 with the value `value`.
@@ -131,6 +131,36 @@ fn comparison_of_pieces() {
             assert_eq!(first.first_difference(&mut second, &limits, &whole), first_difference(one, two, &limits, &whole));
         }
     }
+}
+
+/// What owns a handle goes on in another thread, and is shown without what it holds.
+#[test]
+fn moved_to_a_thread() {
+    let (limits, whole, given) = (Limits::default(), LeftOut::default(), stream(30));
+    let (mut input, mut writer) = (Input::new().unwrap(), Writer::new(*b"DIAG", &limits).unwrap());
+    let (events, text) = (Events::new(&given, &limits).unwrap(), Text::normal(&given, &limits, &whole).unwrap());
+    input.feed(&given[..7]).unwrap();
+    writer.enter(8).unwrap();
+    let shown = format!("{input:?} {writer:?} {events:?} {text:?}");
+    assert!(["Input(", "Writer(", "Events {", "Text("].iter().all(|name| shown.contains(name)), "{shown}");
+    let read = |mut text: Text| text.read_to_end(&mut Vec::new()).unwrap();
+    std::thread::scope(|scope| {
+        let fed = scope.spawn(|| input.feed(&given[7..]).and_then(|()| input.normal(&limits, &whole)).map(read));
+        let written = scope.spawn(|| writer.record(1, &[28]).and_then(|()| writer.leave()).and_then(|()| writer.finish()).map(read));
+        let (told, taken) = (scope.spawn(|| events.count()), scope.spawn(|| read(text)));
+        assert_eq!((fed.join().unwrap(), written.join().unwrap()), (Ok(16), Ok(16)));
+        assert_eq!((told.join().unwrap(), taken.join().unwrap()), (3, 16));
+    });
+}
+
+#[test]
+fn plain_values() {
+    assert_eq!(form_version(), 1);
+    assert_eq!(Limits::default(), Limits { bytes: 1 << 30, depth: 64, values: 1 << 27, shapes_at_use: false });
+    assert_ne!(Limits::default(), Limits { depth: 63, ..Limits::default() });
+    let left_out = LeftOut { blocks: &[8], ..LeftOut::default() };
+    assert_eq!(left_out, LeftOut { blocks: &[8, 9][..1], ..left_out });
+    assert_ne!(left_out, LeftOut::default());
 }
 
 #[test]
