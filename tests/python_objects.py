@@ -265,11 +265,11 @@ class Objects:
     def check_inputs(self):
         """Calls of threads on inputs give what they give alone."""
         one, two = self.fed(self.large), self.fed(self.large + octets("thirty"))
-        self.equal("check in threads", together(*[lambda: [one.check() for _ in range(20)]] * THREADS), [[True] * 20] * THREADS)
+        self.equal("check in threads", together(*[lambda: [one.check() for _ in range(10)]] * THREADS), [[True] * 10] * THREADS)
         wanted = one.first_difference(two)
-        there = lambda: [(one.same(two), one.first_difference(two)) for _ in range(5)]
-        back = lambda: [(two.same(one), two.first_difference(one)._replace(first=wanted.first, second=wanted.second)) for _ in range(5)]
-        self.equal("comparison in threads", together(*[there, back] * (THREADS // 2)), [[(False, wanted)] * 5] * THREADS)
+        there = lambda: [(one.same(two), one.first_difference(two)) for _ in range(2)]
+        back = lambda: [(two.same(one), two.first_difference(one)._replace(first=wanted.first, second=wanted.second)) for _ in range(2)]
+        self.equal("comparison in threads", together(*[there, back] * (THREADS // 2)), [[(False, wanted)] * 2] * THREADS)
         for name in ("normal", "show", "report"):
             source, whole = self.fed(self.large), getattr(self.module, name)(self.large)
             found = together(*[getattr(source, name)] * THREADS)
@@ -279,11 +279,11 @@ class Objects:
     def check_feeding(self):
         """No piece that threads feed is lost, while others judge what is there."""
         source = self.fed(octets("magic"))
-        pieces = [self.module.assemble(f"magic 4243c0de\nblock {8 + it}\n")[4:] * 50000 for it in range(THREADS)]
+        pieces = [self.module.assemble(f"magic 4243c0de\nblock {8 + it}\n")[4:] * 10000 for it in range(THREADS)]
         feed = lambda piece: lambda: [source.feed(piece) for _ in range(10)] and source.check()
         self.equal("feed in threads", together(*map(feed, pieces)), [True] * THREADS)
         counts = dict(re.findall(r"^block (\d+) count (\d+) ", source.report(), re.M))
-        self.equal("what threads fed", counts, {str(8 + it): "500000" for it in range(THREADS)})
+        self.equal("what threads fed", counts, {str(8 + it): "100000" for it in range(THREADS)})
 
     def check_iterators(self):
         """Each event, and each piece, goes to one thread."""

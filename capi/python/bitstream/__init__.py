@@ -75,7 +75,7 @@ def _of(kind: Type[_T], name: str, given: object) -> _T:
 def _number(name: str, given: object, bits: int, least: int = 0, error: Type[ValueError] = ValueError) -> int:
     """Returns this number if it fits `bits` bits; ctypes would cut it."""
     try:
-        number = operator.index(None if isinstance(given, bool) else given)  # type: ignore[arg-type]
+        number = given if type(given) is int else operator.index(None if isinstance(given, bool) else given)  # type: ignore[arg-type]
     except TypeError:
         raise _wrong(name, "an integer", given) from None
     if not least <= number < 1 << bits:
@@ -238,9 +238,9 @@ class Difference(NamedTuple):
 
 
 def _ask(name: str, *arguments: Any) -> int:
-    """Returns the status of a call if it is no error. Structures are passed by their addresses."""
+    """Returns the status of a call if it is no error."""
     fault = _library.Fault()
-    status: int = getattr(calls, name)(*[byref(it) if isinstance(it, Structure) else it for it in arguments], byref(fault))
+    status: int = getattr(calls, name)(*arguments, byref(fault))
     if status == _library.REFUSED:
         raise _refused(name, fault)
     if status == _library.MEMORY:
@@ -262,29 +262,41 @@ def _refused(name: str, fault: _library.Fault) -> Error:
 def _error(status: int, arguments: Iterable[object]) -> Error:
     text = _TEXTS[status]
     if status == _library.LIMITS:
-        return BadValue(": ".join([text, *(it._past_caps() for it in arguments if isinstance(it, Limits))]))
+        # What `byref` returns has the structure as `_obj`.
+        passed = (getattr(it, "_obj", None) for it in arguments)
+        return BadValue(": ".join([text, *(it._past_caps() for it in passed if isinstance(it, Limits))]))
     return {_library.NAMES: BadValue, _library.UNFIT: Unfit}.get(status, Error)(text)
 
 
-def _limits(given: Optional[Limits]) -> Limits:
-    """The limits for one call: a copy, since another thread may change these."""
-    return Limits() if given is None else Limits.from_buffer_copy(_of(Limits, "limits", given))
+_USUAL, _WHOLE = Limits(), _library.LeftOut()
 
 
-def _left_out(given: LeftOut) -> _library.LeftOut:
+def _kept(given: Optional[Limits]) -> Limits:
+    """A copy of limits, which another thread may change."""
+    return _USUAL if given is None else Limits.from_buffer_copy(_of(Limits, "limits", given))
+
+
+def _limits(given: Optional[Limits]) -> Any:
+    return byref(_kept(given))
+
+
+def _left_out(given: LeftOut) -> Any:
     info, blocks, records = _of(LeftOut, "left_out", given)
+    if not any(given):
+        return byref(_WHOLE)
     names = [_library.RecordName(*it) for it in records]
-    return _library.LeftOut(info, (c_uint32 * len(blocks))(*blocks), len(blocks), (_library.RecordName * len(names))(*names), len(names))
+    return byref(_library.LeftOut(info, (c_uint32 * len(blocks))(*blocks), len(blocks), (_library.RecordName * len(names))(*names),
+                                  len(names)))
 
 
-def _length(handle: _library.Handle) -> c_size_t:
+def _length(handle: Any) -> c_size_t:
     """The bytes of the text that a handle holds."""
     needed = c_size_t()
     _ask("bs_text", handle, None, c_size_t(0), byref(needed))
     return needed
 
 
-def _copied(handle: _library.Handle) -> bytes:
+def _copied(handle: Any) -> bytes:
     """The text that a handle holds."""
     needed = _length(handle)
     room = (c_uint8 * needed.value)()
@@ -292,15 +304,15 @@ def _copied(handle: _library.Handle) -> bytes:
     return bytes(room)
 
 
-def _text(name: str, data: ReadableBuffer, limits: Optional[Limits], *left_out: _library.LeftOut) -> bytes:
+def _text(name: str, data: ReadableBuffer, limits: Optional[Limits], *left_out: Any) -> bytes:
     """A text that the library makes once and holds until it is copied."""
-    handle = _library.Handle()
+    handle = byref(_library.Handle())
     try:
         with View("data", data) as given:
             _ask(name, *given, _limits(limits), *left_out, handle)
         return _copied(handle)
     finally:
-        calls.bs_close(byref(handle))
+        calls.bs_close(handle)
 
 
 def check(data: ReadableBuffer, limits: Optional[Limits] = None) -> bool:
@@ -355,7 +367,7 @@ def first_difference(first: ReadableBuffer, second: ReadableBuffer, left_out: Le
 
 def _first_difference(name: str, *given: Any) -> Optional[Difference]:
     difference, room = _library.Difference(), (_library.OpenBlock * _DEPTH)()
-    if _ask(name, *given, difference, room, c_size_t(_DEPTH)) == _library.DONE:
+    if _ask(name, *given, byref(difference), room, c_size_t(_DEPTH)) == _library.DONE:
         return None
     values = difference.values
     return Difference([(it.id, it.items) for it in room[: difference.depth]], difference.items, _standing(difference.first),
@@ -364,21 +376,21 @@ def _first_difference(name: str, *given: Any) -> Optional[Difference]:
 
 def magic(data: ReadableBuffer, limits: Optional[Limits] = None) -> bytes:
     """The magic of the stream of an input. Only the magic and a wrapper are judged."""
-    handle, found = _library.Handle(), _library.Magic()
+    handle, found = byref(_library.Handle()), _library.Magic()
     with View("data", data) as given:
         try:
             _ask("bs_open", *given, _limits(limits), handle)
-            _ask("bs_magic", handle, found)
+            _ask("bs_magic", handle, byref(found))
             return bytes(found.bytes)
         finally:
-            calls.bs_close(byref(handle))
+            calls.bs_close(handle)
 
 
 class _Held:
     """A handle of the library, for one call at a time: while a call runs, the handle is empty."""
 
     def __init__(self) -> None:
-        self._lock, self._handle, self._open = threading.RLock(), _library.Handle(), True
+        self._lock, self._handle, self._open = threading.RLock(), byref(_library.Handle()), True
         self._bs_close = calls.bs_close
         _all_held.add(self)
 
@@ -391,11 +403,15 @@ class _Held:
 
     def ask(self, name: str, *arguments: Any) -> int:
         """One call on the handle."""
-        return self.alone(lambda: _ask(name, self.opened(), *arguments))
+        return self.alone(self._ask, name, *arguments)
 
     # The others are for a caller that is alone.
 
-    def opened(self) -> _library.Handle:
+    def _ask(self, name: str, *arguments: Any) -> int:
+        return _ask(name, self.opened(), *arguments)
+
+    def opened(self) -> Any:
+        """The argument of a call for the handle."""
         if not self._open:
             raise Error(_TEXTS[_library.CLOSED])
         return self._handle
@@ -408,15 +424,16 @@ class _Held:
 
     def free(self) -> None:
         """Closes the handle."""
-        self._open = False
-        self._bs_close(byref(self._handle))
+        if self._open:
+            self._open = False
+            self._bs_close(self._handle)
 
     def forked(self) -> None:
         """Closes the handle in a forked process if a thread that stayed in the parent was in a call on it."""
         if self._lock.acquire(blocking=False):
             self._lock.release()
         else:
-            self._lock, self._handle, self._open = threading.RLock(), _library.Handle(), False
+            self._lock, self._handle, self._open = threading.RLock(), byref(_library.Handle()), False
 
     __del__ = free
 
@@ -491,7 +508,7 @@ class _Iterator(_Owner, Iterator[_T]):
 class Pieces(_Iterator[bytes]):
     """The bytes of a text in pieces, as `pieces` returns them."""
 
-    def __init__(self, name: str, view: View, size: int, *arguments: Structure) -> None:
+    def __init__(self, name: str, view: View, size: int, *arguments: Any) -> None:
         super().__init__(_Held(), view)
         self._name, self._size, self._arguments = name, size, arguments
         self._room = (c_uint8 * 0)()
@@ -514,7 +531,7 @@ class Pieces(_Iterator[bytes]):
 class Events(_Iterator[Event]):
     """The events of an input, as `events` and `Input.events` return them."""
 
-    def __init__(self, held: _Held, view: Optional[View] = None, limits: Optional[Limits] = None) -> None:
+    def __init__(self, held: _Held, view: Optional[View] = None, limits: Any = None) -> None:
         super().__init__(held, view)
         self._limits, self._event = limits, _library.Event()
 
@@ -523,7 +540,7 @@ class Events(_Iterator[Event]):
         if self._view is not None and self._limits is not None:
             _ask("bs_open", *self._view.__enter__(), self._limits, handle)
             self._limits = None
-        _ask("bs_next", handle, event)
+        _ask("bs_next", handle, byref(event))
         if not event.kind:
             return None
         kind = ("", "block", "define", "record", "end")[event.kind]
@@ -532,13 +549,16 @@ class Events(_Iterator[Event]):
         return Event(kind, event.first, event.after, event.id, event.width, event.code, values, operands)
 
 
-def _values(handle: _library.Handle, count: int) -> Tuple[int, ...]:
+def _values(handle: Any, count: int) -> Tuple[int, ...]:
+    if not count:
+        return ()
     room, needed = (c_uint64 * count)(), c_size_t()
     _ask("bs_values", handle, room, c_size_t(count), byref(needed))
-    return tuple(room)
+    # By a view, since the items of ctypes take longer.
+    return tuple(memoryview(room).cast("B").cast("Q"))
 
 
-def _operands(handle: _library.Handle) -> Tuple[Tuple[str, int], ...]:
+def _operands(handle: Any) -> Tuple[Tuple[str, int], ...]:
     needed, none = c_size_t(), (_library.Operand * 0)()
     if _ask("bs_operands", handle, none, c_size_t(0), byref(needed)) == _library.DONE:
         return ()
@@ -611,14 +631,14 @@ class Input(_Owner):
     def magic(self) -> bytes:
         """The magic of the stream, while its events are read."""
         found = _library.Magic()
-        self._held.ask("bs_magic", found)
+        self._held.ask("bs_magic", byref(found))
         return bytes(found.bytes)
 
-    def _text(self, name: str, *arguments: Structure) -> bytes:
+    def _text(self, name: str, *arguments: Any) -> bytes:
         _ask(name, self._held.opened(), *arguments)
         return self._held.taken()
 
-    def _with(self, other: Input, call: Callable[..., _T], name: str, *arguments: Structure) -> _T:
+    def _with(self, other: Input, call: Callable[..., _T], name: str, *arguments: Any) -> _T:
         """A call on two inputs. The library takes no handle twice. All calls on two take the locks in one order."""
         if _of(Input, "other", other) is self:
             raise ValueError("other must be another input")
@@ -632,7 +652,7 @@ class Writer(_Owner):
     than 32 or 64 bits, raises Unfit and changes nothing, as does a wrong type; another error closes the writer."""
 
     def __init__(self, magic: ReadableBuffer = b"BC\xc0\xde", limits: Optional[Limits] = None) -> None:
-        self._held, self._limits = _Held(), _limits(limits)
+        self._held, self._limits = _Held(), _kept(limits)
         # The ids of the open blocks; and whether the innermost has a record, if it is a BLOCKINFO block.
         self._blocks: List[int] = []
         self._has_record = False
@@ -658,25 +678,39 @@ class Writer(_Owner):
         """The normal form of the tree, as bytes. The writer is closed."""
         return self._held.alone(self._finish)
 
-    # The calls, for a caller that is alone, with the rule that is broken if they do not fit.
+    # The calls, for a caller that is alone, each with the rule that it breaks if it does not fit.
 
     def _open(self, magic: Any) -> None:
-        self._write("DE C0 17 0B is the magic of a wrapper", "bs_write_open", magic, self._limits, self._held.opened())
+        self._write(lambda: "DE C0 17 0B is the magic of a wrapper", "bs_write_open", magic, byref(self._limits), self._held.opened())
 
     def _enter(self, id: int) -> None:
-        inside = self._blocks[-1:] == [0]
-        rule = "a BLOCKINFO block has no blocks" if inside else "the limit on depth is %d" % self._limits.depth
-        self._write(rule, "bs_write_enter", self._held.opened(), c_uint32(id))
+        self._write(self._block_rule, "bs_write_enter", self._held.opened(), c_uint32(id))
         self._blocks.append(id)
         self._has_record = False
 
     def _record(self, code: int, values: List[int]) -> None:
-        self._write(self._record_rule(code, values), "bs_write_record", self._held.opened(), c_uint64(code),
+        self._write(lambda: self._record_rule(code, values), "bs_write_record", self._held.opened(), c_uint64(code),
                     (c_uint64 * len(values))(*values), c_size_t(len(values)))
         self._has_record = True
 
+    def _leave(self) -> None:
+        self._write(lambda: "no block is open", "bs_write_leave", self._held.opened())
+        self._blocks.pop()
+
+    def _finish(self) -> bytes:
+        self._write(lambda: "a block is open", "bs_write_finish", self._held.opened())
+        return self._held.taken()
+
+    def _write(self, rule: Callable[[], str], name: str, *arguments: Any) -> None:
+        try:
+            _ask(name, *arguments)
+        except Unfit as error:
+            raise Unfit("%s: %s" % (error, rule())) from None
+
+    def _block_rule(self) -> str:
+        return "a BLOCKINFO block has no blocks" if self._blocks[-1:] == [0] else "the limit on depth is %d" % self._limits.depth
+
     def _record_rule(self, code: int, values: List[int]) -> str:
-        """The first rule that a record may break."""
         if not self._blocks:
             return "no block is open"
         if self._blocks[-1] == 0 and code == 1 and not (values and values[0] < 1 << 32):
@@ -684,17 +718,3 @@ class Writer(_Owner):
         if self._blocks[-1] == 0 and code != 1 and not self._has_record:
             return "the first record of a BLOCKINFO block has code 1"
         return "the limit on values is %d" % self._limits.values
-
-    def _leave(self) -> None:
-        self._write("no block is open", "bs_write_leave", self._held.opened())
-        self._blocks.pop()
-
-    def _finish(self) -> bytes:
-        self._write("a block is open", "bs_write_finish", self._held.opened())
-        return self._held.taken()
-
-    def _write(self, rule: str, name: str, *arguments: Any) -> None:
-        try:
-            _ask(name, *arguments)
-        except Unfit as error:
-            raise Unfit("%s: %s" % (error, rule)) from None
