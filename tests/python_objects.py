@@ -12,7 +12,7 @@ import threading
 
 from program import TOP, skip
 from python_arguments import raised
-from worked_inputs import octets
+from worked_inputs import Bits, octets
 
 # Calls that take this many seconds hang.
 LONGEST = 60
@@ -103,6 +103,23 @@ found = {forked() for _ in range(20)}
 over.set()
 thread.join()
 print(found <= {1, 3}, 3 in found, busy.check())
+"""
+# The memory for the values of an event, in bytes a value; and what happens without it.
+MEMORY = """
+import resource, sys
+import bitstream
+
+most = lambda: resource.getrusage(resource.RUSAGE_SELF).ru_maxrss * 1024
+begun, count = most(), 1 << 22
+values = [it.values for it in bitstream.events(bytes.fromhex(sys.argv[1]), bitstream.Limits(values=count))][2]
+print(values == (0,) * count, (most() - begun) // count <= 16)
+resource.setrlimit(resource.RLIMIT_AS, (1 << 29, 1 << 29))
+for limits in (bitstream.Limits(), bitstream.Limits(values=1000000)):
+    events = bitstream.events(bytes.fromhex(sys.argv[2]), limits)
+    try:
+        print(*[it.kind for it in events])
+    except (MemoryError, bitstream.Refused) as error:
+        print(repr(error), *events)
 """
 TYPED = """from typing import Iterator, List, Optional, Tuple
 import mmap
@@ -212,7 +229,7 @@ class Objects:
         for it in values:
             for number, found in enumerate(self.copies(it)):
                 self.equal(f"copy {number} of {it!r}", (type(found), found), (type(it), it))
-        self.equal("a shallow copy of values", module.first_difference(self.rich, self.other).values, (0, 8, 7))
+        self.equal("the values of a difference", module.first_difference(self.rich, self.other).values, (0, 8, 7))
         limits = module.Limits(depth=3)
         found = copy.copy(limits)
         found.depth = 4
@@ -331,6 +348,18 @@ class Objects:
         writer.record(1, (writer.record(2, [it]) or it for it in range(2)))
         writer.leave()
         self.equal("values that write", self.module.show(writer.finish()), "magic 44494147\nblock 8\n  record 2 0\n  record 2 1\n  record 1 0 1\n")
+
+    # ---- memory
+
+    def check_memory(self):
+        """The memory that the module's text names, for arrays of values that take no bits, of 2^22 and of 2^27."""
+        start = "magic 21 0C 00 00 03 00 00 00 1A 03 4C 00"
+        few, many = (Bits(start).fixed(1, 1).vbr(6, 1 << width).fixed(3, 0).pad().text() for width in (22, 27))
+        self.equal("an array of values", many, Bits(start + " 41 10 04 41 02 00 00 00").text())
+        wanted = "True True\nMemoryError()\nRefused('TooManyValues at bit 129')\n"
+        self.equal("memory for values", program(MEMORY, few, many), (wanted, ""))
+        self.equal("the memory in the module's text", re.findall(r"\d+ bytes for each value|\d+ GiB|Limits\(values=\d+\)", self.module.__doc__),
+                   ["16 bytes for each value", "2 GiB", "Limits(values=1000000)"])
 
     # ---- texts and results
 
@@ -453,6 +482,6 @@ class Objects:
 def check_objects(checks, module):
     it = Objects(checks, module)
     for check in (it.check_values, it.check_errors, it.check_owners, it.check_processes, it.check_inputs, it.check_feeding, it.check_iterators,
-                  it.check_magic, it.check_writing, it.check_inside, it.check_limits, it.check_unfit, it.check_views, it.check_results,
+                  it.check_magic, it.check_writing, it.check_inside, it.check_memory, it.check_limits, it.check_unfit, it.check_views, it.check_results,
                   it.check_with, it.check_names, it.check_types):
         check()

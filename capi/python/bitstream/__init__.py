@@ -6,7 +6,7 @@ object with a contiguous buffer, such as an mmap. It is not copied, so it may no
 that comes in pieces, and `Writer` makes the normal form of a tree item by item.
 
     if bitstream.check(data):  # True, or Refused is raised
-        key = hashlib.sha256(bitstream.normal(data)).hexdigest()
+        key = "%d-%s" % (bitstream.FORM_VERSION, hashlib.sha256(bitstream.normal(data)).hexdigest())
 
     try:
         bitstream.check(data)
@@ -24,9 +24,9 @@ Processes: errors, limits, events and differences can be pickled and copied, so 
 `Events` or `Pieces` can't: TypeError. A forked process can use those that it inherits, but those that a thread of its parent was in
 a call on are closed.
 
-Memory: the values of an event take up to 16 bytes each while they are read, and 8 or more as a tuple. A few bytes of input can be a
-record with as many values as the limit permits, so with the usual limits `events` takes up to 2 GiB. For inputs that are not
-trusted, give it less: `Limits(values=1000000)`.
+Memory: `events` takes 16 bytes for each value of a record while it reads them, and Python's numbers above 256 take 32 more. In an
+input of 24 bytes a record can have as many values as the limit permits, 2 GiB under the usual limits. For inputs that are not
+trusted, permit fewer: `Limits(values=1000000)`. If memory is short, MemoryError is raised.
 
 The library is the one that the variable BITSTREAM_LIBRARY names, by its file or its folder; else the one in this module's folder;
 else the one below the prefix that this module is installed in; else the one that the system's loader finds."""
@@ -39,8 +39,8 @@ import os
 import threading
 import weakref
 from ctypes import Structure, byref, c_bool, c_size_t, c_uint8, c_uint32, c_uint64
-from typing import (TYPE_CHECKING, Any, Callable, Dict, Generic, Iterable, Iterator, List, NamedTuple, NoReturn, Optional,
-                    SupportsIndex, Tuple, Type, TypeVar, Union)
+from typing import (TYPE_CHECKING, Any, Callable, Dict, Iterable, Iterator, List, NamedTuple, NoReturn, Optional, SupportsIndex, Tuple,
+                    Type, TypeVar)
 
 from . import _library
 from ._library import FORM_VERSION, VERSION, View, calls
@@ -395,7 +395,7 @@ class _Held:
         _all_held.add(self)
 
     def alone(self, call: Callable[..., _T], *given: Any) -> _T:
-        """The result of a call. Those of other threads wait; one that begins inside another would wait for ever."""
+        """The result of a call. Those of other threads wait. One inside another, of the same thread, would see an empty handle."""
         if self._lock._is_owned():  # type: ignore[attr-defined]
             raise Error("the object is in another call of this thread")
         with self._lock:
@@ -405,7 +405,7 @@ class _Held:
         """One call on the handle."""
         return self.alone(self._ask, name, *arguments)
 
-    # The others are for a caller that is alone.
+    # The others are for a caller that is alone: `forked` and `__del__` always are.
 
     def _ask(self, name: str, *arguments: Any) -> int:
         return _ask(name, self.opened(), *arguments)
