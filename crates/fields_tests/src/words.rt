@@ -124,7 +124,7 @@ fn bytes_apart<S: Source + Drop>(reader: &mut BitReader<S>, room: u32) -> Result
 {
     let mut number = 0;
     for place in 0..room {
-        number |= u64::from(reader.byte()?) << (8 * place);
+        number |= reader.fixed(8)? << (8 * place);
     }
     Ok(number)
 }
@@ -201,7 +201,10 @@ fn steps_and_words(rt: HostRuntime) {
             let apart = mixed(in_steps(&INPUT, step, 0), room, false);
             let read = mixed(in_steps(&INPUT, step, 0), room, true);
             let shown = mixed(shown_source(&INPUT, step, 0), room, true);
-            assert!(rt; read == apart && shown == apart && !apart.1, "{room} {step}");
+            assert!(rt;
+                read == apart && shown == apart && !apart.1,
+                "{room} {step}"
+            );
         }
     }
 }
@@ -225,7 +228,10 @@ fn fail_as_apart(room: u32, step: usize, fails_at: u64) -> bool
 fn failures_and_words(rt: HostRuntime) {
     for room in 1..9u32 {
         for (step, fails_at) in [(5, 1), (5, 2), (5, 3), (5, 5), (1, 7), (2, 5), (3, 4)] {
-            assert!(rt; fail_as_apart(room, step, fails_at), "{room} {step} {fails_at}");
+            assert!(rt;
+                fail_as_apart(room, step, fails_at),
+                "{room} {step} {fails_at}"
+            );
         }
     }
 }
