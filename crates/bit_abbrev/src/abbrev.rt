@@ -276,13 +276,10 @@ impl Abbrev {
         &self.plan
     }
 
-    /// What follows the operands that stand for one value each.
+    /// How many operands behind the first one give one value each, if all are in a lawful order.
     #[inline(always)]
-    pub(crate) fn tail(&self) -> Tail
-        requires { has_shape self.now ≡ true }
-        ensures { HasTail self.now result }
-    {
-        self.tail
+    pub fn singles(&self) -> u64 {
+        (self.ops.len() - 1 - self.tail.len()) as u64
     }
 
     /// A copy, with the same operands.

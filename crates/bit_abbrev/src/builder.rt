@@ -1,12 +1,5 @@
 //! The table that a BLOCKINFO block makes.
 
-ghost use Rattle.std.specs.Prelude.{◌≡◌, ◌<◌, true, None, Some, IfOk, OnOk, OnErr};
-ghost use Rattle.std.specs.Option.{option_copied};
-ghost use Rattle.bit_grammar.specs.Definition.{operands};
-ghost use Rattle.bit_grammar.specs.declared.op.Place.TheVariants.{First};
-ghost use Rattle.bit_grammar.specs.Terms.{defined_at, no_definitions};
-ghost use Rattle.bit_abbrev.specs.Defining.{AddsRead};
-ghost use Rattle.bit_abbrev.specs.Ready.{either, table_of};
 
 use crate::Abbrev;
 use crate::held::HeldList;
@@ -31,8 +24,6 @@ pub struct InfoBuilder {
 }
 
 impl Model for InfoBuilder {
-    ghost use Rattle.bit_abbrev.specs.Groups.{ready_at};
-    ghost use Rattle.bit_abbrev.specs.Ready.{InfoMade, later_list, newest_of, newest_ready_of};
 
     ghost Value = { InfoMade };
 
@@ -46,8 +37,6 @@ impl Model for InfoBuilder {
 impl InfoBuilder {
     /// A table without definitions. It allocates nothing.
     pub fn new(alloc: Global) -> InfoBuilder
-        ensures made { table_of result.made ≡ no_definitions }
-        ensures newest { result.newest ≡ None }
     {
         InfoBuilder {
             alloc,
@@ -59,10 +48,8 @@ impl InfoBuilder {
     }
 
     /// Adds a definition to those for a block id. If an allocation fails, it is dropped.
+    #[inline(always)]
     pub fn define(&mut self, id: u32, abbrev: Abbrev) -> Result<(), AllocError>
-        ensures made { OnOk result (table_of self.new.made ≡ defined_at id «abbrev» (table_of self.old.made)) }
-        ensures newest { OnOk result (self.new.newest ≡ Some «abbrev») }
-        ensures err { OnErr result (self.new ≡ self.old) }
     {
         if self.later.is_none() && self.room.take(abbrev.ops().len()) {
             self.place = add_ready(self.alloc, &mut self.groups, id, abbrev)?;
@@ -85,18 +72,12 @@ impl InfoBuilder {
         shapes: Shapes,
         count: u64,
     ) -> Result<(), Fault>
-        requires some { 0 < count }
-        requires live { reader.old.live ≡ true }
-        ensures { AddsRead (operands shapes count First) reader.old result reader.new
-            (λ ops. (table_of self.new.made ≡ defined_at id ops (table_of self.old.made))
-            × (self.new.newest ≡ Some ops)) }
     {
         read_later(&mut self.later, self.alloc, id, reader, shapes, count)
     }
 
     /// The last definition that was added, if there is one and it is ready.
     pub fn newest_ready(&self) -> Option<&Abbrev>
-        ensures { option_copied result ≡ self.now.ready }
     {
         match &self.later {
             Some(_) => None,
@@ -106,7 +87,6 @@ impl InfoBuilder {
 
     /// The last definition that was added, made anew, if there is one and it is not ready.
     pub fn newest_made(&self) -> Result<Option<Abbrev>, AllocError>
-        ensures { IfOk result (λ made. either made self.now.ready ≡ self.now.newest) }
     {
         last_later(&self.later, self.alloc)
     }

@@ -1,27 +1,18 @@
 //! Reading definitions.
 
-ghost use Rattle.std.specs.Prelude.{◌≡◌, ◌-◌, ◌<◌, [], IfOk, OnOk, OnErr, true};
-ghost use Rattle.bit_grammar.specs.Definition.{kind, passes, valued, operand, operands, definition};
-ghost use Rattle.bit_grammar.specs.declared.shapes.Shapes.{Shapes};
-ghost use Rattle.bit_grammar.specs.declared.op.Place.TheVariants.{First};
-ghost use Rattle.bit_grammar.specs.FormatDefinition.{HasLawfulValue, Definable};
-ghost use Rattle.bit_fields.specs.Reader.{Takes, IsOnly, told_by};
-ghost use Rattle.bit_abbrev.specs.Defining.{AddsOps, TakesCount};
 
 use crate::abbrev::{Abbrev, Ops, fits, place_after};
 use crate::op_row::{OpRow, ROW};
 use crate::op_taker::OpTaker;
 use crate::short_op::short_op;
 use crate::widths::{is_fixed_width, is_vbr_width};
-use bit_fields::{BitReader, Fault, Source};
+use bit_fields::{BitReader, Fault, PlacedBits, Source};
 use bit_grammar::{Kind, Op, Place, Reason, Shapes};
 use smallvec::SmallVec;
 use std::alloc::{AllocError, Global};
 
-/// Reads the flag of an operand, and its encoding if it has one. For `U` see `read_record`.
-#[tactic(auto, unfolding(bit_grammar::specs::Definition::kind))]
-fn read_kind<U, S: Source>(reader: &mut BitReader<S>) -> Result<Kind, Fault>
-    ensures { Takes kind reader.old result reader.new }
+/// Reads the flag of an operand, and its encoding if it has one.
+fn read_kind<S: Source>(reader: &mut BitReader<S>) -> Result<Kind, Fault>
 {
     if reader.fixed(1)? == 1 {
         return Ok(Kind::Literal);
@@ -41,11 +32,7 @@ fn read_kind<U, S: Source>(reader: &mut BitReader<S>) -> Result<Kind, Fault>
 }
 
 /// Reads the value of an operand of this kind.
-#[tactic(auto, unfolding(bit_grammar::specs::Definition::valued))]
-fn read_value<U, S: Source>(reader: &mut BitReader<S>, kind: Kind) -> Result<Op, Fault>
-    requires { reader.old.live ≡ true }
-    ensures takes { Takes (valued kind) reader.old result reader.new }
-    ensures lawful { IfOk result HasLawfulValue }
+fn read_value<S: Source>(reader: &mut BitReader<S>, kind: Kind) -> Result<Op, Fault>
 {
     match kind {
         Kind::Literal => Ok(Op::Literal(reader.vbr(8)?)),
@@ -69,7 +56,6 @@ fn read_value<U, S: Source>(reader: &mut BitReader<S>, kind: Kind) -> Result<Op,
 
 /// Whether the shape of an operand passes where it is defined: if shapes are judged at their use, it always does.
 pub(crate) fn passes(shapes: Shapes, fits: bool) -> bool
-    ensures { result ≡ passes shapes fits }
 {
     match shapes {
         Shapes::AtDefinition => fits,
@@ -77,46 +63,23 @@ pub(crate) fn passes(shapes: Shapes, fits: bool) -> bool
     }
 }
 
-/// Reads an operand at a place, with `after` operands after it, field by field.
-#[tactic(auto, unfolding(bit_grammar::specs::Definition::operand))]
-#[cold]
-#[inline(never)]
-fn read_fields<U, S: Source>(
+/// Reads an operand at a place, with `after` operands after it.
+fn read_operand<S: Source>(
     reader: &mut BitReader<S>,
     shapes: Shapes,
     place: Place,
     after: u64,
 ) -> Result<Op, Fault>
-    ensures takes { Takes (operand shapes place after) reader.old result reader.new }
-    ensures lawful { IfOk result HasLawfulValue }
 {
     let first = reader.position();
-    let kind = read_kind::<U, S>(reader)?;
+    let kind = read_kind(reader)?;
     let passed = passes(shapes, fits(place, after, kind));
     reader.judge(passed, Reason::AbbrevShape, first)?;
-    read_value::<U, S>(reader, kind)
+    read_value(reader, kind)
 }
 
-/// Reads an operand at a place, with `after` operands after it. One of few bits that the reader holds is read at once: its fields
-/// would ask the source for nothing either.
-#[inline(always)]
-fn read_operand<U, S: Source>(
-    reader: &mut BitReader<S>,
-    shapes: Shapes,
-    place: Place,
-    after: u64,
-) -> Result<Op, Fault>
-    ensures takes { Takes (operand shapes place after) reader.old result reader.new }
-    ensures lawful { IfOk result HasLawfulValue }
-{
-    if let Some(bits) = reader.peek(9) {
-        if let Some(short) = short_op(bits, shapes, place, after) {
-            reader.fixed(short.bits)?;
-            return Ok(short.op);
-        }
-    }
-    read_fields::<U, S>(reader, shapes, place, after)
-}
+/// How many operands a definition has at most that is read from buffered bits.
+const MOST_PLACED: u64 = 64;
 
 /// Many operands while they are read.
 type Gathered = SmallVec<Op, 8>;
@@ -126,7 +89,6 @@ type Gathered = SmallVec<Op, 8>;
 const COPIED: usize = 4096;
 
 impl OpTaker for Gathered {
-    ghost use Rattle.std.specs.Prelude.{◌≡◌, ◌++◌};
 
     ghost added = { λ first ops last. last.items ≡ first.items ++ ops };
 
@@ -147,15 +109,10 @@ pub(crate) fn read_operands<S: Source, T: OpTaker>(
     count: u64,
     list: &mut T,
 ) -> Result<(), Fault>
-    requires some { 0 < count }
-    requires live { reader.old.live ≡ true }
-    requires none { T.added list.old [] list.old }
-    ensures { AddsOps T.added list.old list.new (λ ops. OnOk result (Definable ops)
-        × Takes (operands shapes count First) reader.old (told_by (λ _. ops) result) reader.new) }
 {
     let mut place = Place::First;
     for i in 0..count {
-        let op = read_operand::<T, S>(reader, shapes, place, count - 1 - i)?;
+        let op = read_operand(reader, shapes, place, count - 1 - i)?;
         place = place_after(op);
         match list.take(op) {
             Ok(()) => {}
@@ -169,7 +126,6 @@ pub(crate) fn read_operands<S: Source, T: OpTaker>(
 #[cold]
 #[inline(never)]
 fn shrunk(gathered: Gathered) -> Result<Ops, AllocError>
-    ensures { IfOk result (λ ops. ops.items ≡ gathered.items) }
 {
     let mut ops = gathered.into_vec()?;
     ops.shrink_to_fit();
@@ -179,9 +135,6 @@ fn shrunk(gathered: Gathered) -> Result<Ops, AllocError>
 /// Reads the number of operands of a definition, after its abbreviation id.
 #[inline(always)]
 pub fn read_count<S: Source>(reader: &mut BitReader<S>) -> Result<u64, Fault>
-    ensures takes { (shapes : Shapes) → TakesCount shapes reader.old result reader.new }
-    ensures live { OnOk result (reader.new.live ≡ true) }
-    ensures some { IfOk result (λ count. 0 < count) }
 {
     let first = reader.position();
     let count = reader.vbr(5)?;
@@ -189,39 +142,16 @@ pub fn read_count<S: Source>(reader: &mut BitReader<S>) -> Result<u64, Fault>
     Ok(count)
 }
 
-/// Reads `count` operands.
-#[inline(always)]
-fn read_gathered<S: Source>(
-    alloc: Global,
-    reader: &mut BitReader<S>,
-    shapes: Shapes,
-    count: u64,
-) -> Result<Gathered, Fault>
-    requires some { 0 < count }
-    requires live { reader.old.live ≡ true }
-    ensures takes { Takes (operands shapes count First) reader.old
-        (told_by (λ ops. ops.items) result) reader.new }
-    ensures definable { IfOk result (λ ops. Definable ops.items) }
-{
-    let mut gathered = SmallVec::new(alloc);
-    read_operands(reader, shapes, count, &mut gathered)?;
-    Ok(gathered)
-}
-
 /// Reads the operands of a definition, after their number.
-#[cold]
-#[inline(never)]
-fn read_many<S: Source>(
+pub fn read_ops<S: Source>(
     alloc: Global,
     reader: &mut BitReader<S>,
     shapes: Shapes,
     count: u64,
 ) -> Result<Abbrev, Fault>
-    requires some { 0 < count }
-    requires live { reader.old.live ≡ true }
-    ensures { Takes (operands shapes count First) reader.old result reader.new }
 {
-    let gathered = read_gathered(alloc, reader, shapes, count)?;
+    let mut gathered = SmallVec::new(alloc);
+    read_operands(reader, shapes, count, &mut gathered)?;
     let ops = if gathered.len() <= COPIED {
         Ops::from_slice(alloc, gathered.as_slice())
     } else {
@@ -233,56 +163,6 @@ fn read_many<S: Source>(
     }
 }
 
-/// Reads the operands of a definition, of which a row has room for all.
-#[inline(always)]
-fn read_row<S: Source>(
-    alloc: Global,
-    reader: &mut BitReader<S>,
-    shapes: Shapes,
-    count: u64,
-) -> Result<Abbrev, Fault>
-    requires some { 0 < count }
-    requires live { reader.old.live ≡ true }
-    ensures { Takes (operands shapes count First) reader.old result reader.new }
-{
-    let mut row = OpRow::new();
-    read_operands(reader, shapes, count, &mut row)?;
-    match Ops::from_slice(alloc, row.as_slice()) {
-        Ok(ops) => Ok(Abbrev::from_read(ops, shapes)),
-        Err(_) => Err(reader.fail(Fault::Memory)),
-    }
-}
-
-/// Reads the operands of a definition, after their number.
-#[inline(always)]
-pub fn read_ops<S: Source>(
-    alloc: Global,
-    reader: &mut BitReader<S>,
-    shapes: Shapes,
-    count: u64,
-) -> Result<Abbrev, Fault>
-    requires some { 0 < count }
-    requires live { reader.old.live ≡ true }
-    ensures { Takes (operands shapes count First) reader.old result reader.new }
-{
-    if count > ROW as u64 {
-        return read_many(alloc, reader, shapes, count);
-    }
-    read_row(alloc, reader, shapes, count)
-}
-
-/// Reads the number of operands, and the operands.
-fn read_definition<S: Source>(
-    alloc: Global,
-    reader: &mut BitReader<S>,
-    shapes: Shapes,
-) -> Result<Abbrev, Fault>
-    ensures { Takes (definition shapes) reader.old result reader.new }
-{
-    let count = read_count(reader)?;
-    read_ops(alloc, reader, shapes, count)
-}
-
 /// Reads a definition after its abbreviation id. If shapes are judged at their use, operands in any order are read.
 ///
 /// After any fault the reader has failed, at the position where the call began. One or two operands need no allocation.
@@ -291,13 +171,110 @@ pub fn read_define<S: Source>(
     reader: &mut BitReader<S>,
     shapes: Shapes,
 ) -> Result<Abbrev, Fault>
-    ensures takes { Takes (definition shapes) reader.old result reader.new }
-    ensures only { IsOnly (definition shapes) reader.old result reader.new }
-    ensures stays { OnErr result (reader.new.position ≡ reader.old.position) }
 {
     let first = reader.position();
-    match read_definition(alloc, reader, shapes) {
+    let read = match read_count(reader) {
+        Ok(count) => read_ops(alloc, reader, shapes, count),
+        Err(fault) => Err(fault),
+    };
+    match read {
         Ok(abbrev) => Ok(abbrev),
         Err(fault) => Err(reader.fail_at(fault, first)),
     }
+}
+
+/// An operand at a place, with `after` operands after it, and the bits behind it, if it is lawful there; 128 bits are there.
+#[inline(always)]
+fn placed_operand<'a>(
+    bits: PlacedBits<'a>,
+    shapes: Shapes,
+    place: Place,
+    after: u64,
+) -> Option<(Op, PlacedBits<'a>)> {
+    if let Some(short) = short_op(bits.front(9), shapes, place, after) {
+        return Some((short.op, bits.after(u64::from(short.bits))));
+    }
+    if bits.front(1) == 1 {
+        let (value, behind) = bits.after(1).near_number(8, 64)?;
+        if !passes(shapes, fits(place, after, Kind::Literal)) {
+            return None;
+        }
+        return Some((Op::Literal(value), behind));
+    }
+    let (width, behind) = bits.after(4).near_number(5, 64)?;
+    match bits.front(4) {
+        2 if is_fixed_width(width) => Some((Op::Fixed(width as u8), behind)),
+        4 if is_vbr_width(width) => Some((Op::Vbr(width as u8), behind)),
+        _ => None,
+    }
+}
+
+/// The same of `count` operands, and the bit after them.
+#[inline(always)]
+fn placed_operands<T: OpTaker>(
+    from: PlacedBits<'_>,
+    shapes: Shapes,
+    count: u64,
+    list: &mut T,
+) -> Option<u64> {
+    let mut place = Place::First;
+    let mut bits = from;
+    for i in 0..count {
+        if !bits.has(128) {
+            return None;
+        }
+        let (op, after) = placed_operand(bits, shapes, place, count - 1 - i)?;
+        place = place_after(op);
+        if list.take(op).is_err() {
+            return None;
+        }
+        bits = after;
+    }
+    Some(bits.position())
+}
+
+/// The definition with operands that were read, and the bit after it.
+#[inline(always)]
+fn made_of(alloc: Global, ops: &[Op], shapes: Shapes, after: u64) -> Option<(Abbrev, u64)> {
+    match Ops::from_slice(alloc, ops) {
+        Ok(ops) => Some((Abbrev::from_read(ops, shapes), after)),
+        Err(_) => None,
+    }
+}
+
+/// A definition of few operands, after its abbreviation id, and the bit after it, if it is there. `None` leaves it to the reader, also
+/// where an allocation fails.
+#[inline(always)]
+pub fn placed_define(
+    alloc: Global,
+    fields: PlacedBits<'_>,
+    shapes: Shapes,
+) -> Option<(Abbrev, u64)> {
+    if !fields.has(128) {
+        return None;
+    }
+    let (count, bits) = fields.number(5)?;
+    if count == 0 || count > MOST_PLACED {
+        return None;
+    }
+    if count > ROW as u64 {
+        return placed_many(alloc, bits, shapes, count);
+    }
+    let mut row = OpRow::new();
+    let after = placed_operands(bits, shapes, count, &mut row)?;
+    made_of(alloc, row.as_slice(), shapes, after)
+}
+
+/// The same of many operands, after their number.
+#[cold]
+#[inline(never)]
+fn placed_many(
+    alloc: Global,
+    bits: PlacedBits<'_>,
+    shapes: Shapes,
+    count: u64,
+) -> Option<(Abbrev, u64)> {
+    let mut gathered = SmallVec::new(alloc);
+    let after = placed_operands(bits, shapes, count, &mut gathered)?;
+    made_of(alloc, gathered.as_slice(), shapes, after)
 }

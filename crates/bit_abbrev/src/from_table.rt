@@ -1,11 +1,5 @@
 //! What a block has from a table.
 
-ghost use Rattle.std.specs.Prelude.{◌≡◌, ◌≤◌, Some, IfErr, IfOk, length, slice_get};
-ghost use Rattle.std.specs.Option.{option_copied};
-ghost use Rattle.bit_abbrev.specs.Groups.{IsPlaceOf, ready_for};
-ghost use Rattle.bit_abbrev.specs.HeldLists.{IsRunOf};
-ghost use Rattle.bit_abbrev.specs.InForce.{finished, found_ops};
-ghost use Rattle.bit_abbrev.specs.Ready.{table_of};
 
 use crate::Abbrev;
 use crate::finished::FinishedInfo;
@@ -29,7 +23,6 @@ impl FromTable {
     /// Its group, if any of them are ready.
     #[inline(always)]
     pub(crate) fn group(&self) -> Option<&ReadyGroup>
-        ensures { option_copied result ≡ slice_get self.now.table.value.groups.items self.now.place }
     {
         self.table.groups.get(self.place as usize)
     }
@@ -37,7 +30,6 @@ impl FromTable {
     /// Those that are ready.
     #[inline(always)]
     pub(crate) fn ready(&self) -> &[Abbrev]
-        ensures { result.now ≡ ready_for self.now.table.value.groups.items self.now.id }
     {
         match self.group() {
             Some(group) => group.ready(),
@@ -49,7 +41,6 @@ impl FromTable {
     #[cold]
     #[inline(never)]
     fn held(&self) -> Run
-        ensures { IsRunOf self.now.table.value.later self.now.id result }
     {
         self.table.later.run_of(self.id)
     }
@@ -57,7 +48,6 @@ impl FromTable {
     /// How many there are.
     #[inline(always)]
     pub(crate) fn len(&self) -> usize
-        ensures { result ≡ length (table_of (finished self.now.table.value) self.now.id) }
     {
         let ready = self.ready().len();
         if self.table.later.len() == 0 {
@@ -69,10 +59,6 @@ impl FromTable {
 
     /// The definition at an index, or else how many there are.
     pub(crate) fn find(&self, index: usize) -> Result<Found<'_>, usize>
-        ensures found { IfOk result (λ found. slice_get (table_of (finished self.now.table.value) self.now.id) index
-            ≡ Some (found_ops found)) }
-        ensures count { IfErr result (λ count. count ≡ length (table_of (finished self.now.table.value) self.now.id)) }
-        ensures behind { IfErr result (λ count. count ≤ index) }
     {
         let ready = self.ready();
         if let Some(abbrev) = ready.get(index) {

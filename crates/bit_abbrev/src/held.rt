@@ -1,15 +1,5 @@
 //! Definitions that are held in few bytes.
 
-ghost use Rattle.std.specs.Prelude.{◌≡◌, ◌<◌, ◌^◌, ◌++◌, ◌∷◌, [], ℕ, true, Some, IfOk, IfSome, IfNone, OnOk, OnErr, length, slice_get};
-ghost use Rattle.bit_grammar.specs.Definition.{operands};
-ghost use Rattle.bit_grammar.specs.declared.op.Place.TheVariants.{First};
-ghost use Rattle.bit_grammar.specs.FormatDefinition.{Definable};
-ghost use Rattle.bit_abbrev.specs.HeldLists.{all_of, held_for, InOrder, IsRunOf};
-ghost use Rattle.bit_abbrev.specs.HeldOps.{more, ops_in, Extends, Holds};
-ghost use Rattle.bit_abbrev.specs.declared.held.Head.{Head};
-ghost use Rattle.bit_abbrev.specs.declared.held_op.HeldOp.TheVariants.{End};
-ghost use Rattle.bit_abbrev.specs.Defining.{AddsRead};
-ghost use Rattle.bit_abbrev.specs.Ready.{last_one};
 
 use crate::abbrev::{Abbrev, Ops};
 use crate::definition::read_operands;
@@ -42,10 +32,6 @@ pub struct HeldOps<'a> {
 }
 
 impl<'a> Model for HeldOps<'a> {
-    ghost use Rattle.std.specs.Prelude.{List};
-    ghost use Rattle.bit_grammar.specs.declared.op.Op.{Op};
-    ghost use Rattle.bit_grammar.specs.FormatDefinition.{Definable};
-    ghost use Rattle.bit_abbrev.specs.HeldOps.{ops_in};
 
     ghost Value = { List Op };
 
@@ -56,7 +42,6 @@ impl<'a> Model for HeldOps<'a> {
 
 /// What the further bytes of a literal add to it, in units of 256.
 fn more(held: &[HeldOp]) -> u64
-    ensures { result ≡ more held.now }
 {
     match held {
         [HeldOp::More(byte), rest @ ..] => (u64::from(*byte) + 256 * more(rest)) % (1 << 56),
@@ -67,9 +52,6 @@ fn more(held: &[HeldOp]) -> u64
 /// The first operand, if there is one, and what is held behind it.
 #[inline(always)]
 pub(crate) fn first_in(held: &[HeldOp]) -> Option<(Op, &[HeldOp])>
-    ensures some { IfSome result (λ found. ops_in held.now ≡ found.0 ∷ ops_in found.1.now) }
-    ensures none { IfNone result (ops_in held.now ≡ []) }
-    ensures shorter { IfSome result (λ found. length found.1.now < length held.now) }
 {
     let mut left = held;
     while let [first, rest @ ..] = left {
@@ -95,7 +77,6 @@ pub(crate) fn first_in(held: &[HeldOp]) -> Option<(Op, &[HeldOp])>
 impl<'a> HeldOps<'a> {
     /// The definition with these operands.
     pub fn copy(self, alloc: Global) -> Result<Abbrev, AllocError>
-        ensures { IfOk result (λ copy. copy ≡ self.entry) }
     {
         let mut ops = Ops::new(alloc);
         let mut left = self.held;
@@ -117,10 +98,6 @@ pub(crate) struct HeldList {
 }
 
 impl Model for HeldList {
-    ghost use Rattle.std.specs.Prelude.{ℕ, List};
-    ghost use Rattle.bit_grammar.specs.declared.op.Op.{Op};
-    ghost use Rattle.bit_abbrev.specs.Heads.{AreHeld};
-    ghost use Rattle.bit_abbrev.specs.HeldLists.{held_shown};
 
     ghost Value = { List (ℕ × List Op) };
 
@@ -131,8 +108,6 @@ impl Model for HeldList {
 
 /// Adds operands at the end of a list. If there is no memory for all, some may be there.
 fn hold(held: &mut Vec<HeldOp>, ops: &[Op]) -> Result<(), AllocError>
-    ensures ok { OnOk result (Holds held.old.items held.new.items ops.now) }
-    ensures err { OnErr result (Extends held.old.items held.new.items) }
 {
     for op in ops {
         push(held, *op)?;
@@ -141,7 +116,6 @@ fn hold(held: &mut Vec<HeldOp>, ops: &[Op]) -> Result<(), AllocError>
 }
 
 impl OpTaker for Vec<HeldOp> {
-    ghost use Rattle.bit_abbrev.specs.HeldOps.{Holds};
 
     ghost added = { λ first ops last. Holds first.items last.items ops };
 
@@ -159,10 +133,6 @@ fn close(
     id: u32,
     start: usize,
 ) -> Result<(), AllocError>
-    ensures held { OnOk result (held.new.items ≡ held.old.items ++ End ∷ []) }
-    ensures heads { OnOk result (heads.new.items ≡ heads.old.items ++ record { id = id; start = start } ∷ []) }
-    ensures more { OnErr result (Extends held.old.items held.new.items) }
-    ensures same { OnErr result (heads.new.items ≡ heads.old.items) }
 {
     if start > u32::MAX as usize {
         return Err(AllocError);
@@ -178,7 +148,6 @@ fn close(
 impl HeldList {
     /// No definitions. It allocates nothing.
     pub(crate) fn new(alloc: Global) -> HeldList
-        ensures { result ≡ [] }
     {
         HeldList {
             held: Vec::new(alloc),
@@ -188,16 +157,12 @@ impl HeldList {
 
     /// How many there are.
     pub(crate) fn len(&self) -> usize
-        ensures len { result ≡ length self.now }
-        ensures few { result < 2 ^ 63 }
     {
         self.heads.len()
     }
 
     /// Adds a definition for a block id. If an allocation fails, or all have 2^32 operands, nothing changes.
     pub(crate) fn add(&mut self, id: u32, abbrev: &Abbrev) -> Result<(), AllocError>
-        ensures ok { OnOk result (self.new ≡ self.old ++ (id, «abbrev».now) ∷ []) }
-        ensures err { OnErr result (self.new ≡ self.old) }
     {
         let start = self.held.len();
         hold(&mut self.held, abbrev.ops())?;
@@ -213,10 +178,6 @@ impl HeldList {
         shapes: Shapes,
         count: u64,
     ) -> Result<(), Fault>
-        requires some { 0 < count }
-        requires live { reader.old.live ≡ true }
-        ensures { AddsRead (operands shapes count First) reader.old result reader.new
-            (λ ops. self.new ≡ self.old ++ (id, ops) ∷ []) }
     {
         let start = self.held.len();
         read_operands(reader, shapes, count, &mut self.held)?;
@@ -229,8 +190,6 @@ impl HeldList {
 
     /// The same definitions in the order of block ids. Those for one id stay in their order.
     pub(crate) fn in_order(self) -> Result<HeldList, AllocError>
-        ensures order { IfOk result InOrder }
-        ensures same { IfOk result (λ list. (id : ℕ) → held_for list id ≡ held_for self id) }
     {
         let HeldList { held, mut heads } = self;
         heads.sort_by_key(|head| head.id)?;
@@ -239,8 +198,6 @@ impl HeldList {
 
     /// Where the definitions for a block id are, if all are in the order of ids.
     pub(crate) fn run_of(&self, id: u32) -> Run
-        requires { InOrder self.now }
-        ensures { IsRunOf self.now id result }
     {
         let heads = self.heads.as_slice();
         Run {
@@ -251,8 +208,6 @@ impl HeldList {
 
     /// The operands of the definition at an index.
     pub(crate) fn at(&self, index: usize) -> HeldOps<'_>
-        requires { index < length self.now }
-        ensures { slice_get (all_of self.now) index ≡ Some result }
     {
         let start = self.heads[index].start as usize;
         HeldOps {
@@ -262,7 +217,6 @@ impl HeldList {
 
     /// The last definition, if there is one.
     pub(crate) fn last(&self, alloc: Global) -> Result<Option<Abbrev>, AllocError>
-        ensures { IfOk result (λ last. last ≡ last_one (all_of self.now)) }
     {
         match self.len() {
             0 => Ok(None),

@@ -1,14 +1,5 @@
 //! The table that blocks share, and the definitions in force in a block.
 
-ghost use Rattle.std.specs.Prelude.{◌≡◌, ◌<◌, ◌++◌, [], ◌∷◌, true, None, Some, IfOk, IfSome, OnOk, OnErr, slice_get};
-ghost use Rattle.std.specs.Option.{option_copied};
-ghost use Rattle.bit_grammar.specs.Definition.{operands};
-ghost use Rattle.bit_grammar.specs.declared.op.Place.TheVariants.{First};
-ghost use Rattle.bit_grammar.specs.Terms.{no_definitions};
-ghost use Rattle.bit_abbrev.specs.Defining.{AddsRead};
-ghost use Rattle.bit_abbrev.specs.HeldLists.{all_of};
-ghost use Rattle.bit_abbrev.specs.InForce.{found_if_any};
-ghost use Rattle.bit_abbrev.specs.Ready.{either, later_list, table_of};
 
 use crate::Abbrev;
 use crate::builder::InfoBuilder;
@@ -30,9 +21,6 @@ pub struct SharedInfo {
 }
 
 impl Model for SharedInfo {
-    ghost use Rattle.std.specs.Option.{option_map_or};
-    ghost use Rattle.bit_abbrev.specs.InForce.{finished};
-    ghost use Rattle.bit_abbrev.specs.Ready.{InfoLists, no_lists};
 
     ghost Value = { InfoLists };
 
@@ -42,14 +30,12 @@ impl Model for SharedInfo {
 impl SharedInfo {
     /// A table without definitions. It allocates nothing.
     pub fn new() -> SharedInfo
-        ensures { table_of result ≡ no_definitions }
     {
         SharedInfo { table: None }
     }
 
     /// Shares a finished table. If an allocation fails, the table is dropped.
     pub fn share(alloc: Global, table: InfoBuilder) -> Result<SharedInfo, AllocError>
-        ensures { IfOk result (λ shared. table_of shared ≡ table_of table.made) }
     {
         let InfoBuilder { groups, later, .. } = table;
         if groups.len() > u32::MAX as usize {
@@ -64,8 +50,6 @@ impl SharedInfo {
     /// reference count is exhausted.
     #[inline(always)]
     pub fn enter(&self, alloc: Global, id: u32) -> Result<InForce, AllocError>
-        ensures all { IfOk result (λ definitions. definitions.all ≡ table_of self.now id) }
-        ensures newest { IfOk result (λ definitions. definitions.newest ≡ None) }
     {
         let Some(table) = &self.table else {
             return Ok(InForce::new(alloc));
@@ -101,11 +85,6 @@ pub struct InForce {
 }
 
 impl Model for InForce {
-    ghost use Rattle.std.specs.Prelude.{[], ◌++◌};
-    ghost use Rattle.std.specs.Option.{option_map_or};
-    ghost use Rattle.bit_abbrev.specs.HeldLists.{all_of};
-    ghost use Rattle.bit_abbrev.specs.InForce.{DefinitionsInForce, finished};
-    ghost use Rattle.bit_abbrev.specs.Ready.{later_list, newest_of, newest_ready_of, table_of};
 
     ghost Value = { DefinitionsInForce };
 
@@ -128,9 +107,6 @@ pub struct Definitions<'a> {
 }
 
 impl<'a> Model for Definitions<'a> {
-    ghost use Rattle.std.specs.Prelude.{List};
-    ghost use Rattle.bit_grammar.specs.declared.op.Op.{Op};
-    ghost use Rattle.bit_abbrev.specs.Ready.{AreReady};
 
     ghost Value = { List (List Op) };
 
@@ -144,7 +120,6 @@ impl<'a> Definitions<'a> {
     /// The definition at an index. `None` if there is none, or if it is held in few bytes.
     #[inline(always)]
     pub fn get(&self, index: usize) -> Option<&'a Abbrev>
-        ensures { IfSome result (λ found. slice_get self.now index ≡ Some found.now) }
     {
         if index < self.shared.len() {
             return self.shared.get(index);
@@ -159,7 +134,6 @@ fn find_own<'a>(
     later: &'a Option<Box<HeldList>>,
     index: usize,
 ) -> Option<Found<'a>>
-    ensures { found_if_any result ≡ slice_get (own.now ++ all_of (later_list later.now)) index }
 {
     if let Some(abbrev) = own.get(index) {
         return Some(Found::Ready(abbrev));
@@ -177,8 +151,6 @@ fn find_own<'a>(
 impl InForce {
     /// No definitions. It allocates nothing.
     pub fn new(alloc: Global) -> InForce
-        ensures all { result.all ≡ [] }
-        ensures newest { result.newest ≡ None }
     {
         InForce {
             alloc,
@@ -190,10 +162,8 @@ impl InForce {
     }
 
     /// Adds a definition of the block. If an allocation fails, the definition is dropped.
+    #[inline(always)]
     pub fn define(&mut self, abbrev: Abbrev) -> Result<(), AllocError>
-        ensures all { OnOk result (self.new.all ≡ self.old.all ++ «abbrev» ∷ []) }
-        ensures newest { OnOk result (self.new.newest ≡ Some «abbrev») }
-        ensures err { OnErr result (self.new ≡ self.old) }
     {
         if self.later.is_none() && self.room.take(abbrev.ops().len()) {
             self.own.push(abbrev)?;
@@ -215,10 +185,6 @@ impl InForce {
         shapes: Shapes,
         count: u64,
     ) -> Result<(), Fault>
-        requires some { 0 < count }
-        requires live { reader.old.live ≡ true }
-        ensures { AddsRead (operands shapes count First) reader.old result reader.new
-            (λ ops. (self.new.all ≡ self.old.all ++ ops ∷ []) × (self.new.newest ≡ Some ops)) }
     {
         read_later(&mut self.later, self.alloc, 0, reader, shapes, count)
     }
@@ -226,7 +192,6 @@ impl InForce {
     /// All of them, for many look-ups of those that are ready.
     #[inline]
     pub fn all(&self) -> Definitions<'_>
-        ensures { result ≡ self.now.all }
     {
         let own = self.own.as_slice();
         let Some(shared) = &self.shared else {
@@ -248,7 +213,6 @@ impl InForce {
     /// The definition at an index. `None` if there is none, or if it is held in few bytes.
     #[inline]
     pub fn get(&self, index: usize) -> Option<&Abbrev>
-        ensures { IfSome result (λ found. slice_get self.now.all index ≡ Some found.now) }
     {
         self.all().get(index)
     }
@@ -256,7 +220,6 @@ impl InForce {
     /// The definition at an index, if there is one.
     #[inline]
     pub fn find(&self, index: usize) -> Option<Found<'_>>
-        ensures { found_if_any result ≡ slice_get self.now.all index }
     {
         let count = match &self.shared {
             None => 0,
@@ -268,19 +231,8 @@ impl InForce {
         find_own(self.own.as_slice(), &self.later, index - count)
     }
 
-    /// Whether some are held in few bytes, perhaps those of another block. Only speed depends on it.
-    #[inline(always)]
-    pub fn has_held(&self) -> bool {
-        self.later.is_some()
-            || match &self.shared {
-                None => false,
-                Some(shared) => shared.table.later.len() > 0,
-            }
-    }
-
     /// The last definition that the block added, if there is one and it is ready.
     pub fn newest_ready(&self) -> Option<&Abbrev>
-        ensures { option_copied result ≡ self.now.ready }
     {
         match &self.later {
             Some(_) => None,
@@ -290,7 +242,6 @@ impl InForce {
 
     /// The last definition that the block added, made anew, if there is one and it is not ready.
     pub fn newest_made(&self) -> Result<Option<Abbrev>, AllocError>
-        ensures { IfOk result (λ made. either made self.now.ready ≡ self.now.newest) }
     {
         last_later(&self.later, self.alloc)
     }

@@ -1,8 +1,5 @@
 //! The definitions for block ids, as a table of their own.
 
-ghost use Rattle.std.specs.Prelude.{◌≡◌, ℕ, OnOk, OnErr};
-ghost use Rattle.bit_grammar.specs.Terms.{defined_at, no_definitions};
-ghost use Rattle.bit_abbrev.specs.Table.{definitions_at, table_shown};
 
 use crate::Abbrev;
 use std::alloc::{AllocError, Global};
@@ -18,12 +15,9 @@ pub struct InfoTable {
 }
 
 impl Model for InfoTable {
-    ghost use Rattle.std.specs.Prelude.{ℕ, List};
-    ghost use Rattle.bit_grammar.specs.declared.op.Op.{Op};
 
     ghost Value = { List (ℕ × List (List Op)) };
 
-    ghost use Rattle.bit_abbrev.specs.Table.{table_shown};
 
     ghost view = { λ table. table_shown table.lists.entries };
 }
@@ -35,10 +29,6 @@ fn add(
     id: u32,
     abbrev: Abbrev,
 ) -> Result<(), AllocError>
-    ensures ok { OnOk result ((other : ℕ)
-        → definitions_at (table_shown lists.new.entries) other
-        ≡ defined_at id «abbrev» (definitions_at (table_shown lists.old.entries)) other) }
-    ensures err { OnErr result (table_shown lists.new.entries ≡ table_shown lists.old.entries) }
 {
     if let Some(list) = lists.get_mut(&id) {
         list.push(abbrev)?;
@@ -54,7 +44,6 @@ fn add(
 impl InfoTable {
     /// A table without definitions. It allocates nothing.
     pub fn new(alloc: Global) -> InfoTable
-        ensures { (id : ℕ) → definitions_at result id ≡ no_definitions id }
     {
         InfoTable {
             alloc,
@@ -64,7 +53,6 @@ impl InfoTable {
 
     /// The definitions for a block id, possibly none.
     pub fn for_block(&self, id: u32) -> &[Abbrev]
-        ensures { result.now ≡ definitions_at self.now id }
     {
         match self.lists.get(&id) {
             Some(list) => list.as_slice(),
@@ -74,10 +62,6 @@ impl InfoTable {
 
     /// Adds a definition to those for a block id. If an allocation fails, it is dropped.
     pub fn define(&mut self, id: u32, abbrev: Abbrev) -> Result<(), AllocError>
-        ensures ok { OnOk result ((other : ℕ)
-            → definitions_at self.new other ≡ defined_at id «abbrev» (definitions_at self.old)
-            other) }
-        ensures err { OnErr result (self.new ≡ self.old) }
     {
         add(&mut self.lists, self.alloc, id, abbrev)
     }

@@ -12,10 +12,8 @@
 #![tactic(auto)]
 
 mod abbrev;
-mod bits;
 mod builder;
 mod definition;
-mod few;
 mod finished;
 mod found;
 mod from_table;
@@ -26,31 +24,31 @@ mod in_force;
 mod info;
 mod laws;
 mod layout;
+mod op_list;
 mod op_row;
 mod op_taker;
 mod plan;
 mod ready;
 mod record;
-mod runs;
-mod scalars;
 mod short_op;
 mod tail;
+mod taking;
+mod walk;
 mod widths;
 
 pub use abbrev::{Abbrev, BadAbbrev, Ops};
 pub use bit_grammar::Op;
-pub use bits::{Bits, NotBuffered};
 pub use builder::InfoBuilder;
-pub use definition::{read_count, read_define, read_ops};
-pub use few::{FEW, read_few};
+pub use definition::{placed_define, read_count, read_define, read_ops};
 pub use found::Found;
 pub use held::HeldOps;
-pub use held_record::read_held_record;
 pub use in_force::{Definitions, InForce, SharedInfo};
 pub use info::InfoTable;
 pub use laws::lawful_unbroken;
 pub use layout::Layout;
-pub use plan::{MARGIN, Passed, Plan, pass_plain};
-pub use record::{read_abbreviated, read_plain, read_record};
-pub use runs::Runs;
-pub use scalars::{FIELDS, MOST_VALUES, pass_by_operands, pass_ops, value_of};
+pub use plan::MARGIN;
+pub use record::{read_abbreviated, read_held_record, read_plain, read_record};
+pub use taking::{Taken, take_record};
+pub use walk::{
+    Coming, Counting, FEW, FIELDS, Here, Listing, MOST_VALUES, Planned, Visitor, Walked, value_of,
+};

@@ -1,10 +1,5 @@
 //! Operands of few bits.
 
-ghost use Rattle.std.specs.Prelude.{◌≡◌, ◌<◌, ◌/◌, ◌%◌, ◌⊎◌, ℕ, IfSome, true};
-ghost use Rattle.bit_grammar.specs.declared.op.Op.TheVariants.{Fixed, Vbr};
-ghost use Rattle.bit_grammar.specs.declared.op.Place.{Place};
-ghost use Rattle.bit_grammar.specs.declared.shapes.Shapes.{Shapes};
-ghost use Rattle.bit_abbrev.specs.ShortOps.{IsShort};
 
 use crate::abbrev::fits;
 use crate::definition::passes;
@@ -20,7 +15,6 @@ pub(crate) struct ShortOp {
 /// An operand, if it is lawful at its place.
 #[inline(always)]
 fn if_lawful(lawful: bool, op: Op, bits: u32) -> Option<ShortOp>
-    ensures { IfSome result (λ short. (lawful ≡ true) × (short ≡ record { op = op; bits = bits })) }
 {
     if lawful {
         Some(ShortOp { op, bits })
@@ -32,9 +26,6 @@ fn if_lawful(lawful: bool, op: Op, bits: u32) -> Option<ShortOp>
 /// The operand with these bits, if it has a width.
 #[inline(always)]
 fn with_width(bits: u64) -> Op
-    requires { bits < 256 }
-    ensures fixed { bits % 16 ≡ 2 → result ≡ Fixed (bits / 16) }
-    ensures vbr { bits % 16 ≡ 4 → result ≡ Vbr (bits / 16) }
 {
     let width = (bits / 16) as u8;
     if bits % 16 == 2 {
@@ -47,8 +38,6 @@ fn with_width(bits: u64) -> Op
 /// The operand with a width at the beginning of nine bits, if that is lawful and below 16.
 #[inline(always)]
 fn short_width(bits: u64) -> Option<ShortOp>
-    requires { (bits % 16 ≡ 2) ⊎ (bits % 16 ≡ 4) }
-    ensures { (shapes : Shapes) (place : Place) (after : ℕ) → IfSome result (IsShort shapes place after bits) }
 {
     if bits >= 256 || bits == 20 {
         return None;
@@ -63,7 +52,6 @@ fn short_width(bits: u64) -> Option<ShortOp>
 /// below 128, has a width below 16, or has no value.
 #[inline(always)]
 pub(crate) fn short_op(bits: u64, shapes: Shapes, place: Place, after: u64) -> Option<ShortOp>
-    ensures { IfSome result (IsShort shapes place after bits) }
 {
     if bits % 2 == 1 {
         if bits >= 256 {

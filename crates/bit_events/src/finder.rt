@@ -1,20 +1,17 @@
 //! Finding the events of a stream, one at a time.
 
-ghost use Rattle.std.specs.Prelude.{◌≡◌, ⊤, ℕ, List, ◌%◌, true, IfOk, IfErr};
-ghost use Rattle.std.specs.Borrow.{Bor, sem, follows_so};
-ghost use mathlib.Core.Option.{none};
-ghost use Rattle.bit_fields.specs.Opening.{head_told};
-ghost use Rattle.bit_events.specs.EventView.{shown_if_any};
-ghost use Rattle.bit_events.specs.Folding.{GathersRest};
-ghost use Rattle.bit_events.specs.Events.{Finds, LendsAs, Shuts, Begun, DeclinesEvents};
 
-use crate::event::Event;
+use crate::event::{Event, RecordHead};
 use crate::folding::gather_rest;
 use crate::gatherer::Gatherer;
 use crate::machine::{Machine, Step};
+use crate::passing::{CountedRecord, RunCounter, pass_records};
 use crate::with_first::WithFirst;
-use bit_fields::{BitReader, Fault, Head, Limits, PackedValues, Source, ValueKeeper};
-use std::alloc::Global;
+use bit_abbrev::Coming;
+use bit_fields::{
+    BitReader, Fault, Head, Limits, PackedValues, SliceSource, Source, ValueCount, ValueKeeper, ValueTaker,
+};
+use std::alloc::{AllocError, Global};
 use std::marker::Model;
 
 /// Finds the events of a stream, one at a time: a machine with one frame for each open block, and a value sink that keeps the
@@ -39,8 +36,6 @@ pub struct EventFinder<S: Source, V: ValueKeeper> {
 }
 
 impl<S: Source, V: ValueKeeper> Model for EventFinder<S, V> {
-    ghost use Rattle.bit_events.specs.Coming.{Coming};
-    ghost use Rattle.bit_events.specs.Events.{coming_of, IsEvents};
 
     ghost Value = { Coming };
 
@@ -51,15 +46,11 @@ impl<S: Source, V: ValueKeeper> Model for EventFinder<S, V> {
 }
 
 impl<S: Source, V: ValueKeeper> EventFinder<S, V> {
-    ghost use Rattle.bit_events.specs.contracts.finder.EventFinder.{the_row};
 
     /// Begins the events of an input: reads its wrapper, if there is one, and the magic of its stream. It allocates nothing.
     ///
     /// It refuses an input that breaks there, as `BitReader::start` does, and returns its source.
     pub fn start(alloc: Global, source: S, limits: Limits) -> Result<EventFinder<S, V>, (Fault, S)>
-        ensures begun { IfOk result (λ events. Begun limits (S.incoming source) events) }
-        ensures declined { IfErr result (λ refused. DeclinesEvents limits (S.incoming source)
-            refused.0 (S.incoming refused.1)) }
     {
         // The cap of the limit is below 2^64 - 1, the end of a stream without a wrapper.
         let _bytes = limits.bytes();
@@ -80,35 +71,30 @@ impl<S: Source, V: ValueKeeper> EventFinder<S, V> {
 
     /// The wrapper, if there is one, and the magic of the stream.
     pub fn head(&self) -> &Head
-        ensures { head_told result.now ≡ self.now.head }
     {
         &self.head
     }
 
     /// Returns the source in its present state.
     pub fn into_source(self) -> S
-        ensures { S.incoming result ≡ self.incoming }
     {
         self.reader.into_source()
     }
 
     /// The bit after the last event, or after the head, counted from the first bit of the input. A call that fails leaves it.
     pub fn position(&self) -> u64
-        ensures { result ≡ self.now.position }
     {
         self.reached
     }
 
     /// The values of the last record; none before the first record.
     pub fn values(&self) -> &V
-        ensures { V.kept result.now ≡ self.now.held }
     {
         &self.values.taker
     }
 
     /// Finds the next event and keeps it.
     pub(crate) fn find(&mut self) -> Result<(), Fault>
-        ensures { Finds self.old result self.new }
     {
         if self.over {
             return Ok(());
@@ -133,7 +119,6 @@ impl<S: Source, V: ValueKeeper> EventFinder<S, V> {
     /// After a refusal the gatherer has all events before its bit, and after another fault the first of them. If a call of the
     /// gatherer failed, that was at the next event.
     pub fn gather<G: Gatherer>(&mut self, gatherer: &mut G) -> Result<(), Fault>
-        ensures { GathersRest G.gathered G.fails self.old gatherer.old result self.new gatherer.new }
     {
         if self.over {
             return Ok(());
@@ -157,11 +142,85 @@ impl<S: Source, V: ValueKeeper> EventFinder<S, V> {
         Ok(())
     }
 
+    /// Forgets the last event and its values, so that values are held once, since a record came behind it that ends at a bit.
+    #[inline(always)]
+    fn forget(&mut self, after: u64) {
+        self.reached = after;
+        if self.found.is_some() {
+            self.values.clear();
+            self.found = None;
+        }
+    }
+
+    /// Reads the next event if it is a complete record: gives its values to the value sink and returns the record without them. If
+    /// it is not, or if a value is not taken, it returns `None`, some values may have been added, and `next` finds the event.
+    #[inline(always)]
+    pub fn record<T: ValueTaker>(&mut self, values: &mut T) -> Option<RecordHead> {
+        let bits = self.reader.bits();
+        let first = bits.position();
+        let read = self.machine.plain_record(bits, &self.limits, values)?;
+        self.reader.catch_up(read.after - first);
+        self.forget(read.after);
+        Some(read)
+    }
+
+    /// Passes over the next records of the innermost block, at most `most`, and returns how many they are.
+    fn pass_records(&mut self, most: u64) -> u64 {
+        let Some(frame) = self.machine.frames.last() else {
+            return 0;
+        };
+        if frame.info.is_some() {
+            return 0;
+        }
+        let next = Coming {
+            bits: self.reader.bits(),
+            width: u32::from(frame.head.width),
+            room: self.machine.room(&self.limits),
+        };
+        let first = next.bits.position();
+        let mut passing = Passing { left: most };
+        let Ok(run) = pass_records(next, &frame.definitions, &mut passing) else {
+            return 0;
+        };
+        if passing.left < most {
+            self.machine.used += self.machine.room(&self.limits) - run.room;
+            self.reader.catch_up(run.after - first);
+            self.forget(run.after);
+        }
+        most - passing.left
+    }
+
+    /// Passes over the next events, at most `most`, and returns how many they are: fewer only if the whole input is accepted. It fails
+    /// as `next` does.
+    pub fn pass(&mut self, most: u64) -> Result<u64, Fault> {
+        // Definitions that are found from here on get plans.
+        self.machine.planned = true;
+        let mut left = most;
+        while left > 0 {
+            left -= self.pass_records(left);
+            if left > 0 {
+                if self.record(&mut ValueCount::new()).is_none() {
+                    self.find()?;
+                    if self.over {
+                        return Ok(most - left);
+                    }
+                }
+                left -= 1;
+            }
+        }
+        Ok(most)
+    }
+
+    /// Drops all events that are left. They are not read, and the input counts as accepted.
+    pub fn drop_rest(&mut self) {
+        self.machine.drop_blocks();
+        self.forget(self.reached);
+        self.over = true;
+    }
+
     /// The last event, with these values lent, or `None` before the first event.
     #[inline(always)]
     pub(crate) fn lend<'a, L: Drop>(&'a self, values: L) -> Option<Event<'a, L>>
-        ensures { (told : L → List ℕ) → told values ≡ self.now.held
-            → shown_if_any told result ≡ self.now.last }
     {
         match &self.found {
             None => None,
@@ -172,7 +231,6 @@ impl<S: Source, V: ValueKeeper> EventFinder<S, V> {
     /// The last event.
     #[inline(always)]
     fn event(&self) -> Option<Event<'_, &V>>
-        ensures { shown_if_any (λ (values : Bor V). V.kept values.now) result ≡ self.now.last }
     {
         self.lend(&self.values.taker)
     }
@@ -181,14 +239,31 @@ impl<S: Source, V: ValueKeeper> EventFinder<S, V> {
     ///
     /// A refusal comes after the events of all that is complete and lawful before it.
     pub fn next(&mut self) -> Result<Option<Event<'_, &V>>, Fault>
-        ensures* { sem 𝓛 (follows_so (the_row S.row V.row S.Source V.ValueKeeper.own V.ValueTaker)
-            (the_row S.row V.row S.Source V.ValueKeeper.own V.ValueTaker) self.entry.ghost_name none
-            (λ _ _. ⊤) (λ v. LendsAs (λ (values : Bor V). V.kept values.now) self.old result v)) }
     {
         self.find()?;
         Ok(self.event())
     }
 }
+
+/// Counts records down.
+#[derive(Drop)]
+struct Passing {
+    left: u64,
+}
+
+impl RunCounter for Passing {
+    #[inline(always)]
+    fn count(&mut self, _passed: CountedRecord, _values: &[u64]) -> Result<bool, AllocError> {
+        if self.left == 0 {
+            return Ok(false);
+        }
+        self.left -= 1;
+        Ok(true)
+    }
+}
+
+/// The events of a slice of bytes.
+pub type SliceEvents<'a> = PackedEvents<SliceSource<'a>>;
 
 /// The events of a stream, with packed values.
 pub type PackedEvents<S> = EventFinder<S, PackedValues>;

@@ -16,7 +16,6 @@
 #![tactic(auto)]
 
 mod checking;
-mod entry;
 mod event;
 mod events;
 #[cfg(test)]
@@ -37,7 +36,6 @@ mod open_blocks;
 mod open_blocks_tests;
 mod passing;
 mod running;
-mod slice_events;
 #[cfg(test)]
 mod slice_events_tests;
 mod with_first;
@@ -45,9 +43,10 @@ mod with_first;
 pub use checking::{check, check_keeping};
 pub use event::{Event, RecordHead};
 pub use events::Events;
-pub use finder::{EventFinder, PackedEvent, PackedEvents};
+pub use finder::{EventFinder, PackedEvent, PackedEvents, SliceEvents};
 pub use folding::{Folded, fold};
 pub use gatherer::Gatherer;
 pub use open_blocks::OpenBlocks;
-pub use passing::{CountedRecord, PassedRun, RunCounter, Uncounted, pass_records};
-pub use slice_events::SliceEvents;
+pub use passing::{
+    CountedRecord, PassedRun, RunCounter, Uncounted, list_records, pass_records, walk_run,
+};

@@ -17,7 +17,6 @@
 //! `BitText` holds bits in memory: bytes in chunks of 1 MiB, which grow without a copy.
 #![tactic(auto)]
 
-mod buffered;
 mod characters;
 mod expected;
 mod fault;
@@ -46,7 +45,6 @@ mod writer;
 mod writer_laws;
 
 pub use bit_grammar::{MOST_BYTES, MOST_DEPTH, MOST_VALUES, Reason, Shapes};
-pub use buffered::{Buffered, BufferedParts};
 pub use expected::ExpectedValues;
 pub use fault::Fault;
 pub use front::FrontSource;

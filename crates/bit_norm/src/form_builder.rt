@@ -1,21 +1,9 @@
-ghost use Rattle.std.specs.Prelude.{◌≡◌, ◌+◌, ◌*◌, ◌/◌, ◌^◌, ◌<◌, ◌≤◌, ℕ, List, [], ◌++◌, length, true, false, IfSome, MatchOption, IfOk, OnOk};
-ghost use Rattle.bit_grammar.specs.Machine.{Event};
-ghost use Rattle.bit_grammar.specs.Marks.{RecordMark};
-ghost use Rattle.bit_grammar.specs.Setting.{setting_of};
-ghost use Rattle.bit_grammar.specs.Normal.{most_bytes, values_bits, end_text};
-ghost use Rattle.bit_events.specs.Gathering.{left_open};
-ghost use Rattle.bit_fields.specs.PlacedView.{placed};
-ghost use Rattle.bit_fields.specs.Texts.{with_word};
-ghost use Rattle.bit_events.specs.MachineView.{TookSome};
-ghost use Rattle.bit_events.specs.Passing.{GathersRecords, PassesRecords, PassesRun};
-ghost use Rattle.bit_norm.specs.Building.{HasTaken, record_left, AddsRecord, GrowsTo, IsFormOf, StaysAs, BuildsBlock, BuildsEnd, BuildsRecord, IsTooLong, IsWholeForm};
-ghost use Rattle.bit_norm.specs.Writing.{record_front, record_text, enter_text};
 
-use crate::form_run::{End, SHORT, write_records};
+use crate::form_run::{SHORT, Storing};
 use crate::form_values::{FormValues, is_long};
-use bit_abbrev::{Abbrev, Definitions, InForce, Layout};
-use bit_events::{Gatherer, OpenBlocks, PassedRun};
-use bit_fields::{BitText, Limits, PlacedBits};
+use bit_abbrev::{Coming, Abbrev, Definitions, InForce, Layout};
+use bit_events::{Gatherer, OpenBlocks, PassedRun, Uncounted, walk_run};
+use bit_fields::{BitText, Limits};
 use bit_tree::Info;
 use std::alloc::{AllocError, Global};
 
@@ -24,8 +12,6 @@ const PIECE: usize = 64;
 
 /// Adds what comes in a block before its length.
 fn add_head(text: &mut BitText, id: u32) -> Result<(), AllocError>
-    requires { length text.old < 2 ^ 38 }
-    ensures { OnOk result (text.new ≡ text.old ++ enter_text id (length text.old)) }
 {
     text.fixed(2, 1)?;
     text.vbr(8, u64::from(id))?;
@@ -35,11 +21,6 @@ fn add_head(text: &mut BitText, id: u32) -> Result<(), AllocError>
 
 /// Adds the end of a block, and stores its length at its place.
 fn close_block(text: &mut BitText, hole: u64) -> Result<(), AllocError>
-    requires few { length text.old / 8 ≤ most_bytes }
-    requires there { 32 * hole + 32 ≤ length text.old }
-    ensures { OnOk result ((words : ℕ) → 32 * (hole + 1 + words)
-        ≡ length text.old + length (end_text (length text.old))
-        → text.new ≡ with_word hole words (text.old ++ end_text (length text.old))) }
 {
     text.fixed(2, 0)?;
     text.pad()?;
@@ -49,22 +30,14 @@ fn close_block(text: &mut BitText, hole: u64) -> Result<(), AllocError>
 }
 
 /// Adds what comes in a record before its values.
-#[tactic(auto, using(crate::proofs::ValueTexts::front_few))]
 fn add_record_head(text: &mut BitText, code: u64, count: u64) -> Result<(), AllocError>
-    requires { length text.old < 2 ^ 38 }
-    ensures ok { OnOk result (text.new ≡ text.old ++ record_front code count) }
-    ensures few { OnOk result (length text.new ≤ length text.old + 4098) }
 {
     text.record_front(code, count)
 }
 
 /// Adds a record of few values.
 #[inline(always)]
-#[tactic(auto, using(crate::proofs::ValueTexts::entry_few))]
 fn add_short_record(text: &mut BitText, code: u64, values: &[u64]) -> Result<(), AllocError>
-    requires few { length text.old < 2 ^ 38 }
-    requires short { length values.now ≤ 64 }
-    ensures { OnOk result (text.new ≡ text.old ++ record_text code values.now (length text.old)) }
 {
     text.record(code, values)
 }
@@ -76,10 +49,6 @@ fn add_record(
     count: u64,
     values: &mut BitText,
 ) -> Result<(), AllocError>
-    requires few { length text.old < 2 ^ 38 }
-    requires short { length values.old < 2 ^ 38 }
-    ensures { OnOk result ((list : List ℕ) → count ≡ length list → values.old ≡ values_bits list
-        → text.new ≡ text.old ++ record_text code list (length text.old)) }
 {
     add_record_head(text, code, count)?;
     text.append(values)
@@ -87,16 +56,12 @@ fn add_record(
 
 /// Adds a record of any number of values in pieces, until the text is longer than the limit on bytes. Returns whether it is whole.
 #[inline(never)]
-#[tactic(auto, using(crate::proofs::ValueTexts::values_few))]
 fn add_pieces(
     text: &mut BitText,
     limits: Limits,
     code: u64,
     values: &[u64],
 ) -> Result<bool, AllocError>
-    requires { length text.old < 2 ^ 38 }
-    ensures { IfOk result (λ whole. GrowsTo (text.old ++ record_text code values.now (length text.old))
-        limits.bytes whole text.new) }
 {
     add_record_head(text, code, values.len() as u64)?;
     let mut done = 0;
@@ -126,9 +91,6 @@ pub(crate) struct FormBuilder<'a> {
 impl<'a> FormBuilder<'a> {
     /// Nothing is built.
     pub(crate) fn new(alloc: Global, info: Info<'a>, limits: Limits) -> FormBuilder<'a>
-        ensures form { IsFormOf result [] result }
-        ensures setting { result.standing.setting ≡ setting_of info.entry }
-        ensures limits { result.limits ≡ limits }
     {
         FormBuilder {
             alloc,
@@ -143,21 +105,13 @@ impl<'a> FormBuilder<'a> {
     /// Keeps nothing from now on.
     #[cold]
     fn stop(&mut self)
-        ensures long { self.new.long ≡ true }
-        ensures standing { self.new.standing ≡ self.old.standing }
-        ensures limits { self.new.limits ≡ self.old.limits }
     {
         self.text.clear();
         self.long = true;
     }
 
     /// The text, or `None` if the form is longer than the limit on bytes.
-    #[tactic(auto, using(crate::proofs::Building::whole_text, crate::proofs::Building::passes_whole))]
     pub(crate) fn finish(self) -> Option<BitText>
-        ensures form { (first : FormBuilder) (events : List Event)
-            → IsFormOf first events self.entry → left_open events ≡ 0
-            → MatchOption result (IsTooLong first events) (IsWholeForm first events) }
-        ensures capped { IfSome result (λ text. length text < 2 ^ 38) }
     {
         let FormBuilder {
             text,
@@ -179,10 +133,6 @@ impl<'a> FormBuilder<'a> {
     /// Whether nothing is to do for a record with this code, because it is left out or the form is too long.
     #[inline(always)]
     fn is_idle(&self, code: u64) -> bool
-        ensures yes { result ≡ true → self.now.long ≡ false
-            → record_left self.now.standing code ≡ false }
-        ensures short { result ≡ false → self.now.long ≡ false }
-        ensures inside { result ≡ false → record_left self.now.standing code ≡ true }
     {
         if self.long {
             return true;
@@ -192,8 +142,6 @@ impl<'a> FormBuilder<'a> {
 
     /// Opens a block that is kept.
     fn open_block(&mut self, id: u32) -> Result<(), AllocError>
-        ensures stays { OnOk result (StaysAs self.old self.new) }
-        ensures form { OnOk result (BuildsBlock id self.old self.new) }
     {
         if is_long(&self.text, self.limits) {
             self.stop();
@@ -206,8 +154,6 @@ impl<'a> FormBuilder<'a> {
 
     /// Closes a block that is kept.
     fn close(&mut self) -> Result<(), AllocError>
-        ensures stays { OnOk result (StaysAs self.old self.new) }
-        ensures form { OnOk result (BuildsEnd self.old self.new) }
     {
         let Some(hole) = self.holes.pop() else {
             return Ok(());
@@ -225,9 +171,6 @@ impl<'a> FormBuilder<'a> {
     /// Adds a record that is kept, and moves its values out if some of them may be text. Fails also if their text is unknown.
     #[inline(never)]
     fn add_long(&mut self, code: u64, values: &mut FormValues) -> Result<(), AllocError>
-        requires { length self.old.text < 2 ^ 38 }
-        ensures stays { OnOk result (StaysAs self.old self.new) }
-        ensures form { OnOk result (BuildsRecord code values.old self.old self.new) }
     {
         values.settle()?;
         if values.is_past(self.limits) {
@@ -243,9 +186,6 @@ impl<'a> FormBuilder<'a> {
     /// Adds a record that is kept. It may move the values out.
     #[inline(never)]
     fn add(&mut self, code: u64, values: &mut FormValues) -> Result<(), AllocError>
-        ensures stays { OnOk result (StaysAs self.old self.new) }
-        ensures form { OnOk result (BuildsRecord code values.old self.old self.new) }
-        ensures took { TookSome HasTaken values.old → TookSome HasTaken values.new }
     {
         if is_long(&self.text, self.limits) {
             self.stop();
@@ -262,7 +202,6 @@ impl<'a> FormBuilder<'a> {
     /// Adds a record with these values, if it is kept.
     #[inline]
     pub(crate) fn add_values(&mut self, code: u64, values: &[u64]) -> Result<(), AllocError>
-        ensures { OnOk result (AddsRecord code values.now self.old self.new) }
     {
         if self.is_idle(code) {
             return Ok(());
@@ -290,66 +229,48 @@ impl<'a> FormBuilder<'a> {
     #[inline(always)]
     fn add_run(
         &mut self,
-        bits: PlacedBits<'_>,
-        width: u32,
+        next: Coming<'_>,
         definitions: &Definitions<'_>,
-        room: u64,
     ) -> Result<PassedRun, AllocError>
-        requires width { width ≤ 32 }
-        requires short { self.old.long ≡ false }
-        requires kept { (code : ℕ) → record_left self.old.standing code ≡ true }
-        ensures { IfOk result (λ run. (run.room ≤ room) × ((records : List RecordMark)
-            × PassesRecords width definitions.now room (placed bits.entry) records run
-            × GathersRecords IsFormOf self.old records self.new)) }
     {
-        let mut bits = bits;
-        let mut room = room;
+        let mut next = next;
         while !is_long(&self.text, self.limits) {
             let (lent, at) = self.text.lend(LENT)?;
             let mut bytes = lent;
             let most = (8 * self.limits.bytes() + 7).saturating_sub(self.text.len());
             let last = most.min(8 * bytes.len() as u64 - SHORT);
-            let run = write_records(&mut bytes, at, last, bits, width, definitions, room);
-            self.text.give_back(bytes, run.pen)?;
-            bits = run.bits;
-            room = run.room;
-            if run.end != End::Full {
-                return Ok(PassedRun {
-                    after: bits.position(),
-                    room,
-                    is_over: run.end == End::Over,
-                });
+            let by = Storing { last };
+            let Coming { bits, width, room } = next;
+            let run = walk_run(by, &mut bytes, at, bits, width, room, definitions, &mut Uncounted)?;
+            self.text.give_back(bytes, run.at)?;
+            if run.at <= last {
+                return Ok(run);
             }
+            next = Coming {
+                bits: bits.at(run.after),
+                width,
+                room: run.room,
+            };
         }
-        Ok(PassedRun {
-            after: bits.position(),
-            room,
-            is_over: false,
-        })
+        Ok(PassedRun::none(next))
     }
 
     /// Adds the records that come first in these bits, as many as it likes, if all records of their block are kept.
     #[inline(always)]
     fn pass_run(
         &mut self,
-        bits: PlacedBits<'_>,
-        width: u32,
+        next: Coming<'_>,
         definitions: &InForce,
-        room: u64,
     ) -> Result<PassedRun, AllocError>
-        requires width { width ≤ 32 }
-        ensures { IfOk result (λ run. PassesRun IsFormOf width definitions.now.all room (placed bits.entry)
-            self.old run self.new) }
     {
         if self.long || !self.standing.is_whole() {
-            return Ok(PassedRun::none(bits, room));
+            return Ok(PassedRun::none(next));
         }
-        self.add_run(bits, width, &definitions.all(), room)
+        self.add_run(next, &definitions.all())
     }
 }
 
 impl<'a> Gatherer for FormBuilder<'a> {
-    ghost use Rattle.bit_norm.specs.Building.{IsFormOf};
 
     type Values = FormValues;
 
@@ -399,19 +320,8 @@ impl<'a> Gatherer for FormBuilder<'a> {
     }
 
     #[inline(always)]
-    fn by_plans(&self) -> bool {
-        false
-    }
-
-    #[inline(always)]
-    fn pass(
-        &mut self,
-        bits: PlacedBits<'_>,
-        width: u32,
-        definitions: &InForce,
-        room: u64,
-    ) -> Result<PassedRun, AllocError> {
-        self.pass_run(bits, width, definitions, room)
+    fn pass(&mut self, next: Coming<'_>, definitions: &InForce) -> Result<PassedRun, AllocError> {
+        self.pass_run(next, definitions)
     }
 
     fn leave(&mut self, _after: u64) -> Result<(), AllocError> {

@@ -1,18 +1,5 @@
 //! An input that is read in step with the bytes of another one.
 
-ghost use Rattle.std.specs.Prelude.{◌≡◌, ◌<◌, ◌≤◌, IfOk, OnOk, IfSome, IfNone, None, List, length};
-ghost use Rattle.bit_grammar.specs.declared.op.Op.{Op};
-ghost use Rattle.bit_grammar.specs.Setting.{setting_of};
-ghost use Rattle.bit_grammar.specs.Marks.{RecordMark};
-ghost use Rattle.bit_grammar.specs.Machine.{Opened, enters, leaves, notes};
-ghost use Rattle.bit_norm.specs.Entries.{has_record, standing_shown, the_record, value_apart, what_of};
-ghost use Rattle.bit_events.specs.EventView.{event_shown};
-ghost use Rattle.bit_events.specs.Standing.{stands_after};
-ghost use Rattle.bit_fields.specs.Opening.{head_told};
-ghost use Rattle.bit_fields.specs.PlacedView.{placed};
-ghost use Rattle.bit_events.specs.Passing.{PassesRun};
-ghost use Rattle.bit_norm.specs.InStep.{said_of, sign_shown, stand_of, IsBeside, Weighs, PutsDown, StandsBeside, WeighsNext, Steps, Meets};
-ghost use Rattle.bit_norm.specs.InFront.{ComparesBehind, Concludes, Matches};
 
 use crate::comparing::{SameFault, Which, faulty};
 use crate::differences::{Difference, Place, Standing, ValueDifference, What};
@@ -20,13 +7,13 @@ use crate::magics::{magic_bit, magic_standing};
 use crate::sign::Sign;
 use crate::walk::{Walk, one_more};
 use crate::writing::number_of_magic;
-use bit_abbrev::{Abbrev, InForce};
+use bit_abbrev::{Coming, Abbrev, InForce};
 use bit_events::{
     CountedRecord, Event, Folded, Gatherer, OpenBlocks, PackedEvent, PassedRun, RecordHead,
     RunCounter, SliceEvents, Uncounted, fold, pass_records,
 };
 use bit_fields::{
-    ExpectedValues, Fault, Head, Limits, PackedValues, PlacedBits, SliceSource, Source,
+    ExpectedValues, Fault, Head, Limits, PackedValues, SliceSource, Source,
 };
 use bit_tree::Info;
 use std::alloc::{AllocError, Global};
@@ -60,11 +47,6 @@ pub(crate) enum Weighed {
 #[cold]
 #[inline(never)]
 fn tell_apart(own: Sign<'_>, bit: u64, sign: Sign<'_>, apart: &mut Apart)
-    ensures first { standing_shown apart.new.first ≡ record {
-      bit = bit;
-      what = what_of (sign_shown own.entry);
-    } }
-    ensures value { apart.new.value ≡ value_apart (sign_shown own.entry) (sign_shown sign.entry) }
 {
     *apart = Apart {
         first: Standing {
@@ -79,11 +61,6 @@ fn tell_apart(own: Sign<'_>, bit: u64, sign: Sign<'_>, apart: &mut Apart)
 #[cold]
 #[inline(never)]
 fn tell_record_apart(read: RecordHead, count: u64, apart: &mut Apart)
-    ensures first { standing_shown apart.new.first ≡ record {
-      bit = read.first;
-      what = the_record read.code count;
-    } }
-    ensures value { apart.new.value ≡ None }
 {
     *apart = Apart {
         first: Standing {
@@ -100,8 +77,6 @@ fn tell_record_apart(read: RecordHead, count: u64, apart: &mut Apart)
 /// Compares a sign of the first input, which begins at `bit` and ends at `ended`, with one of the second.
 #[inline(always)]
 fn held_beside(own: Sign<'_>, bit: u64, ended: u64, sign: Sign<'_>, apart: &mut Apart) -> Beside
-    ensures { StandsBeside (record { sign = sign_shown own.entry; bit = bit; ended = ended })
-        (sign_shown sign.entry) result apart.new }
 {
     if own.is(sign) {
         return Beside::Same(ended);
@@ -111,10 +86,7 @@ fn held_beside(own: Sign<'_>, bit: u64, ended: u64, sign: Sign<'_>, apart: &mut 
 }
 
 /// Compares an event that is kept with a sign. What comes before it ended at `ended`.
-#[tactic(auto, using(crate::proofs::InStep::begin_says, crate::proofs::InStep::record_says, crate::proofs::InStep::end_says))]
 fn weigh_left(event: PackedEvent<'_>, sign: Sign<'_>, ended: u64, apart: &mut Apart) -> Weighed
-    ensures { IsBeside (said_of ended (event_shown event.entry)) (sign_shown sign.entry) result
-        apart.new }
 {
     match event {
         Event::Enter {
@@ -142,7 +114,6 @@ fn weigh_left(event: PackedEvent<'_>, sign: Sign<'_>, ended: u64, apart: &mut Ap
 }
 
 /// Compares an event with a sign, if it is kept, and updates the open blocks of the first input.
-#[tactic(auto, using(crate::proofs::InStep::left_says, crate::proofs::InStep::left_out_says))]
 fn weigh(
     event: PackedEvent<'_>,
     sign: Sign<'_>,
@@ -150,9 +121,6 @@ fn weigh(
     ended: u64,
     apart: &mut Apart,
 ) -> Result<Weighed, AllocError>
-    ensures weighs { IfOk result (λ weighed. Weighs blocks.old ended (event_shown event.entry)
-        (sign_shown sign.entry) weighed apart.new) }
-    ensures stands { OnOk result (blocks.new ≡ stands_after (event_shown event.entry) blocks.old) }
 {
     if !blocks.take(event)? {
         return Ok(Weighed::Passed);
@@ -172,9 +140,6 @@ fn weigh_record(
     values: &PackedValues,
     apart: &mut Apart,
 ) -> Result<Option<Weighed>, AllocError>
-    ensures none { IfOk result (λ weighed. IfNone weighed (events.new ≡ events.old)) }
-    ensures some { IfOk result (λ weighed. IfSome weighed (λ weighed. WeighsNext blocks.now
-        events.old (has_record code values.now) weighed apart.new events.new)) }
 {
     let mut expected = ExpectedValues::new(values);
     let Some(read) = events.record(&mut expected) else {
@@ -204,8 +169,6 @@ fn weigh_next(
     sign: Sign<'_>,
     apart: &mut Apart,
 ) -> Result<Weighed, AllocError>
-    ensures { IfOk result (λ weighed. Steps blocks.old (stand_of walk.now ended) events.old
-        (sign_shown sign.entry) weighed apart.new blocks.new events.new) }
 {
     match events.next() {
         Ok(None) => Ok(Weighed::Stands(held_beside(Sign::Over, ended, ended, sign, apart))),
@@ -224,8 +187,6 @@ fn next_beside(
     sign: Sign<'_>,
     apart: &mut Apart,
 ) -> Result<Beside, AllocError>
-    ensures { IfOk result (λ beside. Meets blocks.old (stand_of walk.now ended) events.old
-        (sign_shown sign.entry) beside apart.new blocks.new events.new) }
 {
     'events: loop {
         match weigh_next(events, blocks, walk, ended, sign, apart)? {
@@ -246,8 +207,6 @@ fn next_beside_record(
     values: &PackedValues,
     apart: &mut Apart,
 ) -> Result<Beside, AllocError>
-    ensures { IfOk result (λ beside. Meets blocks.old (stand_of walk.now ended) events.old
-        (has_record code values.now) beside apart.new blocks.new events.new) }
 {
     'events: loop {
         match weigh_record(events, blocks, code, values, apart)? {
@@ -276,7 +235,6 @@ pub(crate) struct Found {
 #[cold]
 #[inline(never)]
 fn put_down(apart: &Apart, sign: Sign<'_>, bit: u64, found: &mut Option<Found>)
-    ensures { PutsDown apart.now (sign_shown sign.entry) bit found.new }
 {
     *found = Some(Found {
         first: apart.first,
@@ -327,12 +285,10 @@ struct EqualRecords<'a> {
 }
 
 impl<'a> RunCounter for EqualRecords<'a> {
-    ghost use Rattle.bit_norm.specs.InFront.{CountsEqual};
 
-    ghost counted = { λ first records last. CountsEqual first records last };
 
     #[inline(always)]
-    fn count(&mut self, passed: CountedRecord) -> Result<bool, AllocError> {
+    fn count(&mut self, passed: CountedRecord, _values: &[u64]) -> Result<bool, AllocError> {
         if passed.after > self.equal {
             return Ok(false);
         }
@@ -346,7 +302,6 @@ impl<'a> RunCounter for EqualRecords<'a> {
 }
 
 impl<'a> Model for Comparer<'a> {
-    ghost use Rattle.bit_norm.specs.InFront.{Comparing};
 
     ghost Value = { Comparing };
 
@@ -368,14 +323,11 @@ impl<'a> Model for Comparer<'a> {
 }
 
 impl<'a> Comparer<'a> {
-    ghost use Rattle.bit_norm.specs.InStep.{AnswersFound, Finishes};
-    ghost use Rattle.bit_norm.specs.InFront.{Takes, FinishesAll, GoesInStep, PassesBy, PassesEvent, PassesSign};
 
     /// Goes on in step, behind the events that both inputs have. `all`: the first has no others.
     #[cold]
     #[inline(never)]
     fn go_in_step(&mut self, all: bool) -> Result<(), AllocError>
-        ensures { OnOk result (GoesInStep all self.old self.new) }
     {
         if all {
             self.first.drop_rest();
@@ -392,8 +344,6 @@ impl<'a> Comparer<'a> {
     /// The same as `passes`, while both are not read in step.
     #[inline(never)]
     fn passes_some(&mut self, after: u64) -> Result<bool, AllocError>
-        requires { 0 < self.old.passed_to }
-        ensures { IfOk result (λ passes. PassesEvent after self.old passes self.new) }
     {
         if after <= self.passed_to {
             self.passed = one_more(self.passed)?;
@@ -406,7 +356,6 @@ impl<'a> Comparer<'a> {
     /// Whether an event, which ends at a bit, is not compared.
     #[inline(always)]
     fn passes_event(&mut self, after: u64) -> Result<bool, AllocError>
-        ensures { IfOk result (λ passes. PassesEvent after self.old passes self.new) }
     {
         if self.passed_to == 0 {
             return Ok(false);
@@ -417,16 +366,9 @@ impl<'a> Comparer<'a> {
     /// Passes over records in the same bytes.
     fn pass_equal(
         &mut self,
-        bits: PlacedBits<'_>,
-        width: u32,
+        next: Coming<'_>,
         definitions: &InForce,
-        room: u64,
     ) -> Result<PassedRun, AllocError>
-        requires width { width ≤ 32 }
-        requires found { self.old.compared.found ≡ None }
-        requires some { 0 < self.old.passed_to }
-        ensures { IfOk result (λ run. PassesRun Matches width definitions.now.all room (placed bits.entry)
-            self.old run self.new) }
     {
         let mut equal = EqualRecords {
             blocks: &self.second_blocks,
@@ -435,7 +377,7 @@ impl<'a> Comparer<'a> {
             items: self.walk.items,
             ended: self.second_ended,
         };
-        let run = pass_records(bits, width, definitions, room, &mut equal)?;
+        let run = pass_records(next, definitions, &mut equal)?;
         self.passed = equal.passed;
         self.walk.items = equal.items;
         self.first_ended = equal.ended;
@@ -445,7 +387,6 @@ impl<'a> Comparer<'a> {
 
     /// Takes a sign that is not compared, which ends at `ended`.
     fn pass_sign(&mut self, sign: Sign<'_>, ended: u64) -> Result<(), AllocError>
-        ensures { OnOk result (PassesSign self.old (sign_shown sign.entry) ended self.new) }
     {
         self.walk.pass(sign)?;
         self.first_ended = ended;
@@ -455,8 +396,6 @@ impl<'a> Comparer<'a> {
 
     /// Takes the beginning of a block that is not compared.
     fn pass_enter(&mut self, id: u32, body: u64) -> Result<(), AllocError>
-        ensures { OnOk result ((opened : Opened) → opened.id ≡ id → opened.body ≡ body
-            → PassesBy (enters opened) self.old self.new) }
     {
         if self.found.is_some() {
             self.second_blocks.enter(id)?;
@@ -477,8 +416,6 @@ impl<'a> Comparer<'a> {
         values: &PackedValues,
         after: u64,
     ) -> Result<(), AllocError>
-        ensures { OnOk result ((mark : RecordMark) → mark.code ≡ code → mark.values ≡ values.now
-            → mark.after ≡ after → PassesBy (notes mark) self.old self.new) }
     {
         if self.found.is_some() {
             return Ok(());
@@ -491,7 +428,6 @@ impl<'a> Comparer<'a> {
 
     /// Takes the end of a block that is not compared.
     fn pass_leave(&mut self, after: u64) -> Result<(), AllocError>
-        ensures { OnOk result (PassesBy (leaves after) self.old self.new) }
     {
         if self.found.is_some() {
             self.second_blocks.leave();
@@ -508,7 +444,6 @@ impl<'a> Comparer<'a> {
     ///
     /// The bytes of the first were accepted, so this fails only if out of memory.
     fn take(&mut self, sign: Sign<'_>, bit: u64, ended: u64) -> Result<(), AllocError>
-        ensures { OnOk result (Takes self.old (sign_shown sign.entry) bit ended self.new) }
     {
         match next_beside(
             &mut self.first,
@@ -539,7 +474,6 @@ impl<'a> Comparer<'a> {
         first: u64,
         after: u64,
     ) -> Result<(), AllocError>
-        ensures { OnOk result (Takes self.old (has_record code values.now) first after self.new) }
     {
         match next_beside_record(
             &mut self.first,
@@ -566,7 +500,6 @@ impl<'a> Comparer<'a> {
 
     /// The difference, if one was found.
     fn difference(self) -> Option<Difference>
-        ensures { AnswersFound self.entry.compared result }
     {
         let Comparer {
             alloc: _,
@@ -599,8 +532,6 @@ impl<'a> Comparer<'a> {
     /// Compares the end of the second stream, whose magic ends at `behind_magic`, with the next entry of the first, and returns the
     /// difference, if one was found. Both are read in step.
     fn finish_in_step(mut self, behind_magic: u64) -> Result<Option<Difference>, AllocError>
-        requires { self.compared.found ≡ None }
-        ensures { IfOk result (λ answer. Finishes behind_magic self.entry.compared answer) }
     {
         let bit = self.walk.ended_from(behind_magic, self.second_ended);
         self.take(Sign::Over, bit, bit)?;
@@ -610,7 +541,6 @@ impl<'a> Comparer<'a> {
     /// Compares the end of the second stream, whose magic ends at `behind_magic`, with the entry of the first at the place, if no
     /// difference was found before, and returns the difference, if there is one.
     fn finish(mut self, behind_magic: u64) -> Result<Option<Difference>, AllocError>
-        ensures { IfOk result (λ answer. FinishesAll behind_magic self.entry answer) }
     {
         if self.found.is_some() {
             return Ok(self.difference());
@@ -624,7 +554,6 @@ impl<'a> Comparer<'a> {
 }
 
 impl<'a> Gatherer for Comparer<'a> {
-    ghost use Rattle.bit_norm.specs.InFront.{Matches};
 
     type Values = PackedValues;
 
@@ -677,20 +606,19 @@ impl<'a> Gatherer for Comparer<'a> {
         self.passed_to > 0
     }
 
-    fn pass(
-        &mut self,
-        bits: PlacedBits<'_>,
-        width: u32,
-        definitions: &InForce,
-        room: u64,
-    ) -> Result<PassedRun, AllocError> {
+    #[inline(always)]
+    fn is_planned(&self) -> bool {
+        true
+    }
+
+    fn pass(&mut self, next: Coming<'_>, definitions: &InForce) -> Result<PassedRun, AllocError> {
         if self.passed_to == 0 {
-            return Ok(PassedRun::none(bits, room));
+            return Ok(PassedRun::none(next));
         }
         if self.found.is_some() {
-            return pass_records(bits, width, definitions, room, &mut Uncounted);
+            return pass_records(next, definitions, &mut Uncounted);
         }
-        self.pass_equal(bits, width, definitions, room)
+        self.pass_equal(next, definitions)
     }
 
     fn leave(&mut self, after: u64) -> Result<(), AllocError> {
@@ -707,8 +635,6 @@ impl<'a> Gatherer for Comparer<'a> {
 
 /// The first difference of two inputs that were read; `first` is the head of the first one.
 fn conclude(first: &Head, folded: Folded<Comparer<'_>>) -> Result<Option<Difference>, AllocError>
-    ensures { IfOk result (λ answer. Concludes (head_told first.now) (head_told folded.entry.head)
-        folded.entry.gatherer answer) }
 {
     let second = folded.head;
     if number_of_magic(first.magic) != number_of_magic(second.magic) {
@@ -738,9 +664,6 @@ pub(crate) fn compare_with<S: Source>(
     info: Info<'_>,
     equal: usize,
 ) -> (Result<Option<Difference>, SameFault>, S)
-    requires few { equal ≤ length first.now }
-    ensures { ComparesBehind (setting_of info.entry) limits first.now equal (S.incoming source) result.0
-        (S.incoming result.1) }
 {
     let events = match SliceEvents::start(alloc, SliceSource::new(first), limits) {
         Ok(events) => events,

@@ -1,14 +1,8 @@
-ghost use Rattle.std.specs.Prelude.{◌≡◌, List, map, OnOk};
-ghost use Rattle.bit_grammar.specs.Machine.{Opened, enters, leaves};
-ghost use Rattle.bit_grammar.specs.Counting.{OpenCount, Counts, no_counts, count_event};
-ghost use Rattle.bit_scan.specs.Counting.{open_counts, added_here, ClosesCount};
-ghost use Rattle.bit_scan.specs.Cut.{capped_counts, cut_open};
-ghost use Rattle.bit_scan.specs.Rows.{block_tallies};
 
 use crate::rows::{Addition, BlockRow, BlockRows};
-use bit_abbrev::{Abbrev, InForce};
+use bit_abbrev::{Coming, Abbrev, InForce};
 use bit_events::{Gatherer, PassedRun};
-use bit_fields::{PlacedBits, ValueCount, ValueTaker};
+use bit_fields::{ValueCount, ValueTaker};
 use std::alloc::{AllocError, Global};
 use std::marker::Model;
 
@@ -32,8 +26,6 @@ pub(crate) struct Counter {
 /// Removes the innermost open block, which ends before a bit. All its bits go to the block around it.
 /// Returns the block and the bits that are its own.
 fn close_block(blocks: &mut Vec<CountedBlock>, after: u64) -> Option<(CountedBlock, u64)>
-    ensures { (around : List OpenCount) → open_counts blocks.old.items ≡ map cut_open around
-        → ClosesCount around after result (open_counts blocks.new.items) }
 {
     let block = blocks.pop()?;
     let bits = after.saturating_sub(block.first);
@@ -44,12 +36,9 @@ fn close_block(blocks: &mut Vec<CountedBlock>, after: u64) -> Option<(CountedBlo
 }
 
 impl Model for Counter {
-    ghost use Rattle.bit_grammar.specs.Counting.{Counts};
 
     ghost Value = { Counts };
 
-    ghost use Rattle.bit_scan.specs.Counting.{open_counts};
-    ghost use Rattle.bit_scan.specs.Rows.{block_tallies};
 
     ghost view = { λ counter. record {
       rows = block_tallies counter.rows;
@@ -60,7 +49,6 @@ impl Model for Counter {
 impl Counter {
     /// Before the first event.
     pub(crate) fn new(alloc: Global) -> Counter
-        ensures { result ≡ no_counts }
     {
         Counter {
             rows: BlockRows::new(alloc),
@@ -70,9 +58,6 @@ impl Counter {
 
     /// A block with this id begins at a bit.
     fn open_block(&mut self, id: u32, first: u64) -> Result<(), AllocError>
-        ensures { (counts : Counts) (opened : Opened) → opened.id ≡ id → opened.first ≡ first
-            → self.old ≡ capped_counts counts
-            → OnOk result (self.new ≡ capped_counts (count_event (enters opened) counts)) }
     {
         let place = self.rows.begin(id)?;
         self.open.push(CountedBlock {
@@ -86,8 +71,6 @@ impl Counter {
 
     /// The innermost block ends before a bit.
     fn end_block(&mut self, after: u64) -> Result<(), AllocError>
-        ensures { (counts : Counts) → self.old ≡ capped_counts counts
-            → OnOk result (self.new ≡ capped_counts (count_event (leaves after) counts)) }
     {
         match close_block(&mut self.open, after) {
             Some((block, bits)) => {
@@ -100,10 +83,7 @@ impl Counter {
 
     /// Counts an item of the innermost open block.
     #[inline(always)]
-    #[tactic(auto, using(crate::proofs::OpenBlocks::counted_here))]
     fn count_here(&mut self, addition: Addition) -> Result<(), AllocError>
-        ensures { (counts : Counts) → self.old ≡ capped_counts counts
-            → OnOk result (self.new ≡ capped_counts (added_here addition counts)) }
     {
         match self.open.last() {
             Some(block) => self.rows.add(block.id, block.place, addition),
@@ -113,16 +93,12 @@ impl Counter {
 
     /// The rows.
     pub(crate) fn into_rows(self) -> Vec<(u32, BlockRow)>
-        ensures { block_tallies result.items ≡ self.rows }
     {
         self.rows.into_rows()
     }
 }
 
 impl Gatherer for Counter {
-    ghost use Rattle.std.specs.Prelude.{◌≡◌};
-    ghost use Rattle.bit_grammar.specs.Counting.{no_counts, count_events};
-    ghost use Rattle.bit_scan.specs.Cut.{capped_counts};
 
     type Values = ValueCount;
 
@@ -170,18 +146,17 @@ impl Gatherer for Counter {
     }
 
     #[inline(always)]
-    fn pass(
-        &mut self,
-        bits: PlacedBits<'_>,
-        width: u32,
-        definitions: &InForce,
-        room: u64,
-    ) -> Result<PassedRun, AllocError> {
+    fn is_planned(&self) -> bool {
+        true
+    }
+
+    #[inline(always)]
+    fn pass(&mut self, next: Coming<'_>, definitions: &InForce) -> Result<PassedRun, AllocError> {
         match self.open.last() {
             Some(block) => self
                 .rows
-                .pass(block.id, block.place, bits, width, definitions, room),
-            None => Ok(PassedRun::none(bits, room)),
+                .pass(block.id, block.place, next, definitions),
+            None => Ok(PassedRun::none(next)),
         }
     }
 

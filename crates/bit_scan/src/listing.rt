@@ -1,27 +1,14 @@
-ghost use Rattle.std.specs.Prelude.{◌≡◌, ◌≤◌, ◌++◌, [], length, Some, None, IfSome, OnErr, OnOk};
-ghost use Rattle.std.proofs.Math.ListN.{replicate};
-ghost use Rattle.bit_grammar.specs.Steps.{open_after};
-ghost use Rattle.bit_grammar.specs.Setting.{setting_of};
-ghost use Rattle.bit_grammar.specs.Texts.{values_text, record_line, event_text};
-ghost use Rattle.bit_events.specs.Coming.{TellsComing};
-ghost use Rattle.bit_events.specs.EventView.{event_shown};
-ghost use Rattle.bit_scan.specs.Lines.{listing_head};
-ghost use Rattle.bit_scan.specs.Listing.{around_after as after_event, line_left, left_text, FailsLeft, ListsBytes};
-ghost use Rattle.bit_scan.specs.Printing.{Printed, Prints, PrintsWhole};
-ghost use Rattle.bit_scan.specs.Telling.{KeepsFault};
-ghost use Rattle.bit_events.specs.Standing.{stands_after};
 
 use crate::printer::Printer;
 use crate::text_buffer::BATCH;
-use bit_abbrev::Abbrev;
-use bit_events::{Event, Gatherer, OpenBlocks, PackedEvent, PackedEvents};
+use bit_abbrev::{Coming, Abbrev, InForce};
+use bit_events::{CountedRecord, Event, Gatherer, OpenBlocks, PackedEvent, PackedEvents, PassedRun, RunCounter, list_records};
 use bit_fields::{Fault, Limits, PackedValues, Sink, SliceSource, WideSlice};
 use bit_grammar::Info;
 use std::alloc::{AllocError, Global};
 
 /// Writes byte values.
 fn write_bytes<K: Sink>(printer: &mut Printer<K>, bytes: &[u8]) -> Result<(), Fault>
-    ensures { Prints (values_text bytes.now) printer.old result printer.new }
 {
     let mut place = 0;
     while place < bytes.len() {
@@ -34,7 +21,6 @@ fn write_bytes<K: Sink>(printer: &mut Printer<K>, bytes: &[u8]) -> Result<(), Fa
 
 /// Writes number values.
 fn write_numbers<K: Sink>(printer: &mut Printer<K>, numbers: &[u64]) -> Result<(), Fault>
-    ensures { Prints (values_text numbers.now) printer.old result printer.new }
 {
     let mut place = 0;
     while place < numbers.len() {
@@ -47,7 +33,6 @@ fn write_numbers<K: Sink>(printer: &mut Printer<K>, numbers: &[u64]) -> Result<(
 
 /// Writes wide values.
 fn write_wide<K: Sink>(printer: &mut Printer<K>, mut values: WideSlice<'_>) -> Result<(), Fault>
-    ensures { Prints (values_text values.entry) printer.old result printer.new }
 {
     while let Some(value) = values.take_first() {
         printer.value(value)?;
@@ -57,7 +42,6 @@ fn write_wide<K: Sink>(printer: &mut Printer<K>, mut values: WideSlice<'_>) -> R
 
 /// Writes `count` values that are zero.
 fn write_zeros<K: Sink>(printer: &mut Printer<K>, count: u64) -> Result<(), Fault>
-    ensures { Prints (values_text (replicate count 0)) printer.old result printer.new }
 {
     for _ in 0..count {
         printer.value(0)?;
@@ -68,7 +52,6 @@ fn write_zeros<K: Sink>(printer: &mut Printer<K>, count: u64) -> Result<(), Faul
 /// Writes values in up to four parts.
 #[inline(never)]
 fn write_parts<K: Sink>(printer: &mut Printer<K>, values: &PackedValues) -> Result<(), Fault>
-    ensures { Prints (values_text values.now) printer.old result printer.new }
 {
     let parts = values.parts();
     write_wide(printer, parts.wide)?;
@@ -83,7 +66,6 @@ pub(crate) fn write_values<K: Sink>(
     printer: &mut Printer<K>,
     values: &PackedValues,
 ) -> Result<(), Fault>
-    ensures { Prints (values_text values.now) printer.old result printer.new }
 {
     let recent = values.parts().recent;
     if recent.len() as u64 == values.len() {
@@ -93,7 +75,6 @@ pub(crate) fn write_values<K: Sink>(
 }
 
 /// Writes the line of a record, piece by piece.
-#[tactic(auto, using(crate::proofs::Parted::no_first, crate::proofs::Parted::no_second, crate::proofs::Parted::third, crate::proofs::Parted::record_parts))]
 #[inline(never)]
 fn write_record_pieces<K: Sink>(
     printer: &mut Printer<K>,
@@ -101,7 +82,6 @@ fn write_record_pieces<K: Sink>(
     code: u64,
     values: &PackedValues,
 ) -> Result<(), Fault>
-    ensures { Prints (record_line around code values.now) printer.old result printer.new }
 {
     printer.record_head(around, code)?;
     write_values(printer, values)?;
@@ -111,7 +91,6 @@ fn write_record_pieces<K: Sink>(
 /// All values, if they are few and held as numbers.
 #[inline(always)]
 pub(crate) fn few_of(values: &PackedValues) -> Option<&[u64]>
-    ensures { IfSome result (λ few. (few.now ≡ values.now) × (length few.now ≤ 64)) }
 {
     let recent = values.parts().recent;
     if recent.len() as u64 == values.len() && recent.len() <= BATCH {
@@ -129,7 +108,6 @@ fn write_whole<K: Sink>(
     code: u64,
     values: &PackedValues,
 ) -> Result<bool, Fault>
-    ensures { PrintsWhole (record_line around code values.now) printer.old result printer.new }
 {
     match few_of(values) {
         Some(few) => printer.record_line(around, code, few),
@@ -138,14 +116,12 @@ fn write_whole<K: Sink>(
 }
 
 /// Writes the line of a record.
-#[tactic(auto, using(crate::proofs::Prints::whole_printed, crate::proofs::Prints::pieces_follow))]
 fn write_record<K: Sink>(
     printer: &mut Printer<K>,
     around: u32,
     code: u64,
     values: &PackedValues,
 ) -> Result<(), Fault>
-    ensures { Prints (record_line around code values.now) printer.old result printer.new }
 {
     if write_whole(printer, around, code, values)? {
         return Ok(());
@@ -160,7 +136,6 @@ fn write_event<K: Sink>(
     around: u32,
     event: &PackedEvent<'_>,
 ) -> Result<(), Fault>
-    ensures { Prints (event_text around (event_shown event.now)) printer.old result printer.new }
 {
     match event {
         Event::Enter { id, .. } => printer.block_line(around, *id),
@@ -172,7 +147,6 @@ fn write_event<K: Sink>(
 /// The number of blocks around what follows an event. `None` if it is too great, which the limit on open blocks excludes.
 #[inline(always)]
 pub(crate) fn around_after(around: u32, event: &PackedEvent<'_>) -> Option<u32>
-    ensures { IfSome result (λ next. next ≡ open_after (event_shown event.now) around) }
 {
     match event {
         Event::Enter { .. } => around.checked_add(1),
@@ -184,7 +158,6 @@ pub(crate) fn around_after(around: u32, event: &PackedEvent<'_>) -> Option<u32>
 /// Keeps the fault of a line that was not written.
 #[inline(always)]
 pub(crate) fn kept(stopped: &mut Option<Fault>, done: Result<(), Fault>) -> Result<(), AllocError>
-    ensures { KeepsFault done stopped.old result stopped.new }
 {
     match done {
         Ok(()) => Ok(()),
@@ -210,15 +183,6 @@ impl<'a, K: Sink> ListingWriter<'a, K> {
     /// Takes an event, and writes its line if it is kept and has one.
     #[inline(always)]
     fn write(&mut self, event: PackedEvent<'_>) -> Result<(), AllocError>
-        ensures written { OnOk result (Printed (line_left self.old.standing self.old.around
-            (event_shown event.entry)) self.old.printer self.new.printer) }
-        ensures fails { OnErr result (FailsLeft self.old.standing self.old.around self.old.printer
-            (Some (event_shown event.entry)) self.new.stopped self.new.printer) }
-        ensures stands { OnOk result (self.new.standing
-            ≡ stands_after (event_shown event.entry) self.old.standing) }
-        ensures around { OnOk result (self.new.around
-            ≡ after_event self.old.standing self.old.around (event_shown event.entry)) }
-        ensures stopped { OnOk result (self.new.stopped ≡ self.old.stopped) }
     {
         let Ok(is_left) = self.standing.take(event) else {
             self.stopped = Some(Fault::Memory);
@@ -239,7 +203,6 @@ impl<'a, K: Sink> ListingWriter<'a, K> {
 
     /// Returns the sink.
     fn into_sink(self) -> K
-        ensures { K.outgoing result ≡ self.entry.printer.outgoing }
     {
         let ListingWriter {
             printer,
@@ -252,9 +215,23 @@ impl<'a, K: Sink> ListingWriter<'a, K> {
     }
 }
 
+impl<'a, K: Sink> RunCounter for ListingWriter<'a, K> {
+    #[inline(always)]
+    fn count(&mut self, record: CountedRecord, values: &[u64]) -> Result<bool, AllocError> {
+        if !self.standing.leaves_record(record.code) {
+            return Ok(true);
+        }
+        match self.printer.record_line(self.around, record.code, values) {
+            Ok(is_added) => Ok(is_added),
+            Err(fault) => {
+                self.stopped = Some(fault);
+                Err(AllocError)
+            }
+        }
+    }
+}
+
 impl<'a, K: Sink> Gatherer for ListingWriter<'a, K> {
-    ghost use Rattle.std.specs.Prelude.{◌≡◌};
-    ghost use Rattle.bit_scan.specs.Listing.{FailsLeft, WroteLeft};
 
     type Values = PackedValues;
 
@@ -301,29 +278,13 @@ impl<'a, K: Sink> Gatherer for ListingWriter<'a, K> {
     }
 
     #[inline(always)]
-    fn takes_few(&self) -> bool {
+    fn passes(&self) -> bool {
         true
     }
 
     #[inline(always)]
-    fn few(
-        &mut self,
-        _id: u32,
-        code: u64,
-        values: &[u64],
-        _first: u64,
-        _after: u64,
-    ) -> Result<bool, AllocError> {
-        if !self.standing.leaves_record(code) {
-            return Ok(true);
-        }
-        match self.printer.record_line(self.around, code, values) {
-            Ok(is_added) => Ok(is_added),
-            Err(fault) => {
-                self.stopped = Some(fault);
-                Err(AllocError)
-            }
-        }
+    fn pass(&mut self, next: Coming<'_>, definitions: &InForce) -> Result<PassedRun, AllocError> {
+        list_records(next, definitions, self)
     }
 
     fn leave(&mut self, after: u64) -> Result<(), AllocError> {
@@ -336,12 +297,6 @@ fn write_events<K: Sink>(
     events: &mut PackedEvents<SliceSource<'_>>,
     writer: &mut ListingWriter<'_, K>,
 ) -> Result<(), Fault>
-    requires tells { TellsComing events.old }
-    requires outside { events.old.depth ≡ 0 }
-    requires around { writer.old.around ≡ 0 }
-    requires wrote { writer.old.stopped ≡ None }
-    ensures { Prints (left_text 0 writer.old.standing events.old.told.0) writer.old.printer result
-        writer.new.printer }
 {
     let done = events.gather(writer);
     if let Some(fault) = writer.stopped {
@@ -359,13 +314,6 @@ fn write_told<K: Sink>(
     events: &mut PackedEvents<SliceSource<'_>>,
     writer: &mut ListingWriter<'_, K>,
 ) -> Result<(), Fault>
-    requires tells { TellsComing events.old }
-    requires outside { events.old.depth ≡ 0 }
-    requires around { writer.old.around ≡ 0 }
-    requires wrote { writer.old.stopped ≡ None }
-    ensures prints { Prints (listing_head events.old.head.magic
-        ++ left_text 0 writer.old.standing events.old.told.0) writer.old.printer result writer.new.printer }
-    ensures all { OnOk result (writer.new.printer.held ≡ []) }
 {
     writer.printer.listing_head(events.head().magic)?;
     write_events(events, writer)?;
@@ -383,8 +331,6 @@ pub(crate) fn write_listing<K: Sink>(
     info: Info<'_>,
     sink: K,
 ) -> (Result<(), Fault>, K)
-    ensures { ListsBytes (setting_of info.entry) limits bytes.now (K.outgoing sink) result.0
-        (K.outgoing result.1) }
 {
     let mut events = match PackedEvents::start(alloc, SliceSource::new(bytes), limits) {
         Ok(events) => events,

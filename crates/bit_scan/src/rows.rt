@@ -1,20 +1,6 @@
-ghost use Rattle.std.specs.Prelude.{◌≡◌, ◌+◌, ◌<◌, ◌≤◌, ◌++◌, ◌∷◌, ℕ, map, min, nat_le, if◌then◌else◌, length, slice_get, List, [], Some, OnOk, IfOk};
-ghost use Rattle.std.specs.Map.{keys_of};
-ghost use Rattle.bit_scan.specs.Indexed.{AreDistinct, IsFree, IsIndexed};
-ghost use Rattle.bit_grammar.specs.Tally.{CodeTally, BlockTally};
-ghost use Rattle.bit_grammar.specs.Counting.{fresh_row, with_row};
-ghost use Rattle.bit_scan.specs.Additions.{with_added};
-ghost use Rattle.bit_scan.specs.CodesView.{code_tallies, with_use, CountsUse};
-ghost use Rattle.bit_scan.specs.Cut.{cut_code, cut_row, cut_rows};
-ghost use Rattle.bit_grammar.specs.Marks.{RecordMark};
-ghost use Rattle.bit_grammar.specs.declared.op.Op.{Op};
-ghost use Rattle.bit_fields.specs.PlacedView.{placed};
-ghost use Rattle.bit_events.specs.Passing.{PassesRecords};
-ghost use Rattle.bit_scan.specs.declared.rows.Addition.TheVariants as addition;
-ghost use Rattle.bit_scan.specs.Rows.{block_tally, block_tallies, rows_after, with_codes, with_run, AddsToRow, CountsInRow};
 
 use crate::links::{Keyed, Spot, find, is_at, lead};
-use bit_abbrev::InForce;
+use bit_abbrev::{Coming, InForce};
 use bit_events::{CountedRecord, PassedRun, RunCounter, pass_records};
 use bit_fields::PlacedBits;
 use std::alloc::{AllocError, Global};
@@ -33,7 +19,6 @@ pub struct CodeRow {
 #[cold]
 #[inline(never)]
 fn fill(sum: &mut u64)
-    ensures { sum.new ≡ 18446744073709551615 }
 {
     *sum = u64::MAX;
 }
@@ -41,7 +26,6 @@ fn fill(sum: &mut u64)
 /// Adds to a sum, which saturates at the greatest number. That is a call, so that other additions are made in place.
 #[inline(always)]
 fn add_to(sum: &mut u64, more: u64)
-    ensures { sum.new ≡ min (sum.old + more) 18446744073709551615 }
 {
     *sum = sum.wrapping_add(more);
     if *sum < more {
@@ -53,8 +37,6 @@ impl CodeRow {
     /// Counts one more record.
     #[inline(always)]
     fn add(&mut self, bits: u64)
-        ensures count { self.new.count ≡ min (self.old.count + 1) 18446744073709551615 }
-        ensures bits { self.new.bits ≡ min (self.old.bits + bits) 18446744073709551615 }
     {
         add_to(&mut self.count, 1);
         add_to(&mut self.bits, bits);
@@ -80,7 +62,6 @@ type Places = [CodePlaces; 32];
 /// Reserves room for one more row. There are many lists of rows, so doubling would leave much memory unused.
 #[inline(always)]
 fn make_room<T>(rows: &mut Vec<T>) -> Result<(), AllocError>
-    ensures { rows.new.items ≡ rows.old.items }
 {
     if rows.len() == rows.capacity() {
         rows.reserve_exact(rows.len() / 8 + 1)?;
@@ -96,13 +77,9 @@ pub struct Codes {
 }
 
 impl Model for Codes {
-    ghost use Rattle.std.specs.Prelude.{ℕ, List};
-    ghost use Rattle.bit_scan.specs.declared.rows.CodeRow.{CodeRow};
 
     ghost Value = { List (ℕ × CodeRow) };
 
-    ghost use Rattle.std.specs.Map.{keys_of};
-    ghost use Rattle.bit_scan.specs.Indexed.{IsIndexed};
 
     ghost view = { λ codes. codes.rows.items };
 
@@ -112,12 +89,6 @@ impl Model for Codes {
 /// Counts one more record in the row at a place.
 #[inline(always)]
 fn count_at(rows: &mut [(u64, CodeRow)], place: usize, bits: u64)
-    requires { place < length rows.old }
-    ensures keys { keys_of rows.new ≡ keys_of rows.old }
-    ensures counts { (code : ℕ) (tallies : List CodeTally) → AreDistinct (keys_of rows.old)
-        → slice_get (keys_of rows.old) place ≡ Some code
-        → code_tallies rows.old ≡ map cut_code tallies
-        → code_tallies rows.new ≡ map cut_code (with_use code bits tallies) }
 {
     let (_, row) = &mut rows[place];
     row.add(bits);
@@ -131,10 +102,6 @@ fn begin_code(
     code: u64,
     bits: u64,
 ) -> Result<usize, AllocError>
-    requires indexed { IsIndexed (keys_of rows.old.items) links.old.items }
-    requires free { IsFree (keys_of rows.old.items) links.old.items code slot }
-    ensures indexed { IsIndexed (keys_of rows.new.items) links.new.items }
-    ensures counts { CountsUse code bits rows.old.items result rows.new.items }
 {
     let place = rows.len();
     make_room(rows)?;
@@ -155,9 +122,6 @@ fn count_by_code(
     code: u64,
     bits: u64,
 ) -> Result<usize, AllocError>
-    requires { IsIndexed (keys_of rows.old.items) links.old.items }
-    ensures indexed { IsIndexed (keys_of rows.new.items) links.new.items }
-    ensures counts { CountsUse code bits rows.old.items result rows.new.items }
 {
     match find(rows, links, code) {
         Spot::Row(place) => {
@@ -171,7 +135,6 @@ fn count_by_code(
 impl Codes {
     /// No code is used yet.
     fn new(alloc: Global) -> Codes
-        ensures { result ≡ [] }
     {
         Codes {
             rows: Vec::new(alloc),
@@ -181,7 +144,6 @@ impl Codes {
 
     /// Each code and its row, in order of first use.
     pub fn rows(&self) -> &[(u64, CodeRow)]
-        ensures { result.now ≡ self.now }
     {
         self.rows.as_slice()
     }
@@ -190,7 +152,6 @@ impl Codes {
     #[cold]
     #[inline(never)]
     fn add_by_code(&mut self, place: &mut u8, code: u64, bits: u64) -> Result<(), AllocError>
-        ensures { CountsUse code bits self.old result self.new }
     {
         let found = count_by_code(&mut self.rows, &mut self.links, code, bits)?;
         *place = u8::try_from(found).unwrap_or(0);
@@ -200,7 +161,6 @@ impl Codes {
     /// Counts one more record, whose row may be at the cached place.
     #[inline(always)]
     fn add(&mut self, place: &mut u8, code: u64, bits: u64) -> Result<(), AllocError>
-        ensures { CountsUse code bits self.old result self.new }
     {
         let likely = usize::from(*place);
         if !is_at(&self.rows, likely, code) {
@@ -252,7 +212,6 @@ pub(crate) enum Addition {
 impl BlockRow {
     /// Nothing is counted.
     fn new(alloc: Global) -> BlockRow
-        ensures { (id : ℕ) → block_tally (id, result) ≡ fresh_row id }
     {
         BlockRow {
             blocks: 0,
@@ -268,8 +227,6 @@ impl BlockRow {
     /// Counts what an event adds to the row. Each sum saturates at the greatest number.
     #[inline(always)]
     fn add(&mut self, places: &mut CodePlaces, addition: Addition) -> Result<(), AllocError>
-        ensures { (id : ℕ) (tally : BlockTally) → block_tally (id, self.old) ≡ cut_row tally
-            → OnOk result (block_tally (id, self.new) ≡ cut_row (with_added addition tally)) }
     {
         match addition {
             Addition::Block => {
@@ -301,9 +258,6 @@ impl BlockRow {
 /// Counts one more record by whether it is abbreviated.
 #[inline(always)]
 fn add_kind(plain: &mut u64, abbreviated: &mut u64, id: u64)
-    ensures plain { plain.new ≡ min (plain.old + (if nat_le 4 id then 0 else 1)) 18446744073709551615 }
-    ensures abbreviated { abbreviated.new
-        ≡ min (abbreviated.old + (if nat_le 4 id then 1 else 0)) 18446744073709551615 }
 {
     let (_plain, _abbreviated) = (*plain, *abbreviated);
     if id >= 4 {
@@ -317,8 +271,6 @@ impl BlockRow {
     /// Counts one more record in the row of its code.
     #[inline(always)]
     fn add_code(&mut self, places: &mut CodePlaces, code: u64, bits: u64) -> Result<(), AllocError>
-        ensures row { self.new ≡ with_codes self.new.codes self.old }
-        ensures codes { CountsUse code bits self.old.codes result self.new.codes }
     {
         self.codes
             .add(&mut places[(code % 64) as usize], code, bits)
@@ -327,7 +279,6 @@ impl BlockRow {
     /// Adds the sums of a run of records, which are in the rows of their codes already.
     #[inline(always)]
     fn add_run(&mut self, plain: u64, abbreviated: u64, values: u64)
-        ensures { self.new ≡ with_run plain abbreviated values self.old }
     {
         let records = plain.saturating_add(abbreviated);
         self.records = self.records.saturating_add(records);
@@ -346,12 +297,10 @@ struct RowCounter<'a> {
 }
 
 impl<'a> RunCounter for RowCounter<'a> {
-    ghost use Rattle.bit_scan.specs.Rows.{CountsBehind};
 
-    ghost counted = { λ first records last. CountsBehind first records last };
 
     #[inline(always)]
-    fn count(&mut self, passed: CountedRecord) -> Result<bool, AllocError> {
+    fn count(&mut self, passed: CountedRecord, _values: &[u64]) -> Result<bool, AllocError> {
         add_kind(&mut self.plain, &mut self.abbreviated, passed.id);
         let bits = passed.after - passed.first;
         self.row.add_code(self.places, passed.code, bits)?;
@@ -365,15 +314,9 @@ impl BlockRow {
     fn pass(
         &mut self,
         places: &mut CodePlaces,
-        bits: PlacedBits<'_>,
-        width: u32,
+        next: Coming<'_>,
         definitions: &InForce,
-        room: u64,
     ) -> Result<PassedRun, AllocError>
-        requires width { width ≤ 32 }
-        ensures { IfOk result (λ run. (records : List RecordMark)
-            × CountsInRow self.old records self.new
-            × PassesRecords width definitions.now.all room (placed bits.entry) records run) }
     {
         let mut counter = RowCounter {
             row: self,
@@ -381,10 +324,10 @@ impl BlockRow {
             plain: 0,
             abbreviated: 0,
         };
-        match pass_records(bits, width, definitions, room, &mut counter) {
+        match pass_records(next, definitions, &mut counter) {
             Ok(run) => {
                 let (plain, abbreviated) = (counter.plain, counter.abbreviated);
-                counter.row.add_run(plain, abbreviated, room - run.room);
+                counter.row.add_run(plain, abbreviated, next.room - run.room);
                 Ok(run)
             }
             Err(error) => Err(error),
@@ -409,13 +352,6 @@ fn add_at(
     place: usize,
     addition: Addition,
 ) -> Result<(), AllocError>
-    requires { place < length rows.old }
-    ensures keys { keys_of rows.new ≡ keys_of rows.old }
-    ensures adds { (id : ℕ) (tallies : List BlockTally) → AreDistinct (keys_of rows.old)
-        → slice_get (keys_of rows.old) place ≡ Some id
-        → block_tallies rows.old ≡ cut_rows tallies
-        → OnOk result (block_tallies rows.new
-        ≡ cut_rows (with_row (with_added addition) id tallies)) }
 {
     let (_, row) = &mut rows[place];
     row.add(&mut places[place % 32], addition)
@@ -427,23 +363,12 @@ fn pass_at(
     rows: &mut [(u32, BlockRow)],
     places: &mut Places,
     place: usize,
-    bits: PlacedBits<'_>,
-    width: u32,
+    next: Coming<'_>,
     definitions: &InForce,
-    room: u64,
 ) -> Result<PassedRun, AllocError>
-    requires within { place < length rows.old }
-    requires width { width ≤ 32 }
-    ensures keys { keys_of rows.new ≡ keys_of rows.old }
-    ensures passes { IfOk result (λ run. (records : List RecordMark)
-        × PassesRecords width definitions.now.all room (placed bits.entry) records run
-        × ((id : ℕ) (tallies : List BlockTally) → AreDistinct (keys_of rows.old)
-        → slice_get (keys_of rows.old) place ≡ Some id
-        → block_tallies rows.old ≡ cut_rows tallies
-        → block_tallies rows.new ≡ cut_rows (rows_after records id tallies))) }
 {
     let (_, row) = &mut rows[place];
-    row.pass(&mut places[place % 32], bits, width, definitions, room)
+    row.pass(&mut places[place % 32], next, definitions)
 }
 
 /// Begins the row of an id that has none, at the end, with what an event adds, and returns its place.
@@ -456,10 +381,6 @@ fn begin_row(
     id: u32,
     row: BlockRow,
 ) -> Result<usize, AllocError>
-    requires indexed { IsIndexed (keys_of rows.old.items) links.old.items }
-    requires free { IsFree (keys_of rows.old.items) links.old.items id slot }
-    ensures indexed { IsIndexed (keys_of rows.new.items) links.new.items }
-    ensures pushed { OnOk result (rows.new.items ≡ rows.old.items ++ (id, row) ∷ []) }
 {
     let place = rows.len();
     make_room(rows)?;
@@ -485,13 +406,9 @@ pub(crate) struct BlockRows {
 }
 
 impl Model for BlockRows {
-    ghost use Rattle.std.specs.Prelude.{ℕ, List};
-    ghost use Rattle.bit_scan.specs.declared.rows.BlockRow.{BlockRow};
 
     ghost Value = { List (ℕ × BlockRow) };
 
-    ghost use Rattle.std.specs.Map.{keys_of};
-    ghost use Rattle.bit_scan.specs.Indexed.{IsIndexed};
 
     ghost view = { λ all. all.rows.items };
 
@@ -501,7 +418,6 @@ impl Model for BlockRows {
 impl BlockRows {
     /// No block is entered yet.
     pub(crate) fn new(alloc: Global) -> BlockRows
-        ensures { result ≡ [] }
     {
         BlockRows {
             alloc,
@@ -515,7 +431,6 @@ impl BlockRows {
     /// Counts what an event adds to the row of an id and returns the row's place. If there is no row, a new one is added at the
     /// end.
     fn add_by_id(&mut self, id: u32, addition: Addition) -> Result<usize, AllocError>
-        ensures { AddsToRow addition id self.old result self.new }
     {
         match find(&self.rows, &self.links, u64::from(id)) {
             Spot::Row(place) => {
@@ -538,7 +453,6 @@ impl BlockRows {
         place: usize,
         addition: Addition,
     ) -> Result<(), AllocError>
-        ensures { AddsToRow addition id self.old result self.new }
     {
         if is_at(&self.rows, place, u64::from(id)) {
             return add_at(&mut self.rows, &mut self.places, place, addition);
@@ -551,7 +465,6 @@ impl BlockRows {
     #[cold]
     #[inline(never)]
     fn begin_by_id(&mut self, id: u32) -> Result<usize, AllocError>
-        ensures { AddsToRow addition.Block id self.old result self.new }
     {
         let place = self.add_by_id(id, Addition::Block)?;
         self.found[(id % 32) as usize] = u32::try_from(place).unwrap_or(0);
@@ -561,7 +474,6 @@ impl BlockRows {
     /// Counts a block that begins and returns the place of its row, which may be cached.
     #[inline(always)]
     pub(crate) fn begin(&mut self, id: u32) -> Result<usize, AllocError>
-        ensures { AddsToRow addition.Block id self.old result self.new }
     {
         let likely = self.found[(id % 32) as usize] as usize;
         if !is_at(&self.rows, likely, u64::from(id)) {
@@ -577,34 +489,24 @@ impl BlockRows {
         &mut self,
         id: u32,
         place: usize,
-        bits: PlacedBits<'_>,
-        width: u32,
+        next: Coming<'_>,
         definitions: &InForce,
-        room: u64,
     ) -> Result<PassedRun, AllocError>
-        requires width { width ≤ 32 }
-        ensures { IfOk result (λ run. (records : List RecordMark)
-            × PassesRecords width definitions.now.all room (placed bits.entry) records run
-            × ((tallies : List BlockTally) → block_tallies self.old ≡ cut_rows tallies
-            → block_tallies self.new ≡ cut_rows (rows_after records id tallies))) }
     {
         if !is_at(&self.rows, place, u64::from(id)) {
-            return Ok(PassedRun::none(bits, room));
+            return Ok(PassedRun::none(next));
         }
         pass_at(
             &mut self.rows,
             &mut self.places,
             place,
-            bits,
-            width,
+            next,
             definitions,
-            room,
         )
     }
 
     /// Each id and its row.
     pub(crate) fn into_rows(self) -> Vec<(u32, BlockRow)>
-        ensures { result.items ≡ self }
     {
         self.rows
     }

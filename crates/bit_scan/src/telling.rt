@@ -1,35 +1,19 @@
 //! The events of an input as lines, written as they are read.
 
-ghost use Rattle.std.specs.Prelude.{◌≡◌, ℕ, ◌≤◌, ◌<◌, ◌+◌, ◌^◌, ◌++◌, IfSome, OnOk, [], codes, flat_map, length, OnErr, Some, None};
-ghost use Rattle.std.proofs.Math.ListN.{replicate};
-ghost use Rattle.bit_grammar.specs.EventTexts.{line_at, op_text, ops_text, shown_values, noted_text, event_line};
-ghost use Rattle.bit_grammar.specs.Texts.{values_text};
-ghost use Rattle.bit_grammar.specs.Machine.{notes};
-ghost use Rattle.bit_grammar.specs.Steps.{open_after};
-ghost use Rattle.bit_grammar.specs.declared.op.Op.{Op};
-ghost use Rattle.bit_fields.specs.Opening.{head_told};
-ghost use Rattle.bit_events.specs.Coming.{going};
-ghost use Rattle.bit_events.specs.EventView.{event_shown};
-ghost use Rattle.bit_scan.specs.Json.{event_json, joined, joined_from, list_line, noted_fields, noted_json, number_json, op_json, place_fields};
-ghost use Rattle.bit_scan.specs.Printing.{Prints, PrintsWhole, Printed};
-ghost use Rattle.bit_scan.specs.Styles.{fault_as, head_as, refusal_as, styled_event};
-ghost use Rattle.bit_scan.specs.Telling.{FailsLine, PrintsLast, TellsRest, TellsAll, TellsInput};
 
 use crate::analysing::begin_of;
 use crate::format::{EventStyle, Format};
 use crate::listing::{around_after, few_of, kept, write_values};
 use crate::printer::Printer;
 use crate::record_lines::{Noted, Opened};
-use bit_abbrev::Abbrev;
-use bit_events::{Event, Gatherer, PackedEvent, PackedEvents};
+use bit_abbrev::{Coming, Abbrev, InForce};
+use bit_events::{CountedRecord, Event, Gatherer, PackedEvent, PackedEvents, PassedRun, RunCounter, list_records};
 use bit_fields::{Fault, Head, Limits, PackedValues, Reason, Sink, Source, WideSlice};
 use bit_grammar::{Op, ValueDisplay};
 use std::alloc::{AllocError, Global};
 
 /// Writes operands, a comma before each.
 fn write_further_operands<K: Sink>(printer: &mut Printer<K>, ops: &[Op]) -> Result<(), Fault>
-    ensures { Prints (flat_map (λ (op : Op). codes ", " ++ op_text op) ops.now) printer.old result
-        printer.new }
 {
     for op in ops {
         printer.further_operand(*op)?;
@@ -39,7 +23,6 @@ fn write_further_operands<K: Sink>(printer: &mut Printer<K>, ops: &[Op]) -> Resu
 
 /// Writes operands, joined by commas.
 fn write_operands<K: Sink>(printer: &mut Printer<K>, ops: &[Op]) -> Result<(), Fault>
-    ensures { Prints (ops_text ops.now) printer.old result printer.new }
 {
     match ops.split_first() {
         Some((first, others)) => {
@@ -51,15 +34,12 @@ fn write_operands<K: Sink>(printer: &mut Printer<K>, ops: &[Op]) -> Result<(), F
 }
 
 /// Writes the line of a definition.
-#[tactic(auto, using(crate::proofs::Parted::no_first, crate::proofs::Parted::no_second, crate::proofs::Parted::third, crate::proofs::Parted::definition_parts))]
 fn write_definition<K: Sink>(
     printer: &mut Printer<K>,
     around: u32,
     first: u64,
     ops: &[Op],
 ) -> Result<(), Fault>
-    ensures { Prints (line_at first around (codes "define " ++ ops_text ops.now)) printer.old result
-        printer.new }
 {
     printer.definition_head(around, first)?;
     write_operands(printer, ops)?;
@@ -72,7 +52,6 @@ fn write_shown<K: Sink>(
     values: ValueDisplay,
     listed: &PackedValues,
 ) -> Result<(), Fault>
-    ensures { Prints (shown_values values listed.now) printer.old result printer.new }
 {
     match values {
         ValueDisplay::Shown => write_values(printer, listed),
@@ -81,7 +60,6 @@ fn write_shown<K: Sink>(
 }
 
 /// Writes the line of a record, piece by piece.
-#[tactic(auto, using(crate::proofs::Parted::no_first, crate::proofs::Parted::no_second, crate::proofs::Parted::third, crate::proofs::Parted::noted_parts))]
 #[inline(never)]
 fn write_noted_pieces<K: Sink>(
     printer: &mut Printer<K>,
@@ -90,10 +68,6 @@ fn write_noted_pieces<K: Sink>(
     values: ValueDisplay,
     listed: &PackedValues,
 ) -> Result<(), Fault>
-    requires { noted.count ≡ length listed.now }
-    ensures { Prints (line_at noted.first around
-        (noted_text values noted.code noted.abbreviation listed.now)) printer.old result
-        printer.new }
 {
     printer.noted_head(around, noted)?;
     write_shown(printer, values, listed)?;
@@ -103,8 +77,6 @@ fn write_noted_pieces<K: Sink>(
 /// The values of a record that are shown, if they are few and held as numbers.
 #[inline(always)]
 fn shown_of(values: ValueDisplay, listed: &PackedValues) -> Option<&[u64]>
-    ensures { IfSome result (λ shown. (values_text shown.now ≡ shown_values values listed.now)
-        × (length shown.now ≤ 64)) }
 {
     match values {
         ValueDisplay::Shown => few_of(listed),
@@ -121,10 +93,6 @@ fn write_noted_whole<K: Sink>(
     values: ValueDisplay,
     listed: &PackedValues,
 ) -> Result<bool, Fault>
-    requires { noted.count ≡ length listed.now }
-    ensures { PrintsWhole (line_at noted.first around
-        (noted_text values noted.code noted.abbreviation listed.now)) printer.old result
-        printer.new }
 {
     match shown_of(values, listed) {
         Some(shown) => printer.noted_record(around, noted, shown),
@@ -133,7 +101,6 @@ fn write_noted_whole<K: Sink>(
 }
 
 /// Writes the line of a record.
-#[tactic(auto, using(crate::proofs::Prints::whole_printed, crate::proofs::Prints::pieces_follow))]
 fn write_noted<K: Sink>(
     printer: &mut Printer<K>,
     around: u32,
@@ -141,10 +108,6 @@ fn write_noted<K: Sink>(
     values: ValueDisplay,
     listed: &PackedValues,
 ) -> Result<(), Fault>
-    requires { noted.count ≡ length listed.now }
-    ensures { Prints (line_at noted.first around
-        (noted_text values noted.code noted.abbreviation listed.now)) printer.old result
-        printer.new }
 {
     if write_noted_whole(printer, around, noted, values, listed)? {
         return Ok(());
@@ -160,8 +123,6 @@ fn write_line<K: Sink>(
     event: &PackedEvent<'_>,
     values: ValueDisplay,
 ) -> Result<(), Fault>
-    ensures { Prints (event_line values around (event_shown event.now)) printer.old result
-        printer.new }
 {
     match *event {
         Event::Enter {
@@ -202,7 +163,6 @@ fn write_line<K: Sink>(
 
 /// Writes operands as the items of a JSON list.
 fn write_json_operands<K: Sink>(printer: &mut Printer<K>, ops: &[Op]) -> Result<(), Fault>
-    ensures { Prints (joined op_json ops.now) printer.old result printer.new }
 {
     for place in 0..ops.len() {
         printer.op_item(place as u64, ops[place])?;
@@ -217,8 +177,6 @@ fn write_json_definition<K: Sink>(
     first: u64,
     ops: &[Op],
 ) -> Result<(), Fault>
-    ensures { Prints (list_line (codes "define") (place_fields around first) (codes "operands")
-        (joined op_json ops.now)) printer.old result printer.new }
 {
     printer.definition_list(around, first)?;
     write_json_operands(printer, ops)?;
@@ -230,8 +188,6 @@ fn write_json_wide<K: Sink>(
     printer: &mut Printer<K>,
     mut values: WideSlice<'_>,
 ) -> Result<(), Fault>
-    requires { length values < 2 ^ 64 }
-    ensures { Prints (joined number_json values.entry) printer.old result printer.new }
 {
     let mut place = 0;
     while let Some(value) = values.take_first() {
@@ -247,8 +203,6 @@ fn write_json_bytes<K: Sink>(
     first: u64,
     bytes: &[u8],
 ) -> Result<(), Fault>
-    requires { first + length bytes.now < 2 ^ 64 }
-    ensures { Prints (joined_from number_json first bytes.now) printer.old result printer.new }
 {
     let mut place = 0;
     while place < bytes.len() {
@@ -261,9 +215,6 @@ fn write_json_bytes<K: Sink>(
 
 /// Writes `count` zeros as items of a JSON list, the first of them at a place.
 fn write_json_zeros<K: Sink>(printer: &mut Printer<K>, first: u64, count: u64) -> Result<(), Fault>
-    requires { first + count < 2 ^ 64 }
-    ensures { Prints (joined_from number_json first (replicate count 0)) printer.old result
-        printer.new }
 {
     for index in 0..count {
         printer.number_item(first + index, 0)?;
@@ -277,8 +228,6 @@ fn write_json_numbers<K: Sink>(
     first: u64,
     numbers: &[u64],
 ) -> Result<(), Fault>
-    requires { first + length numbers.now < 2 ^ 64 }
-    ensures { Prints (joined_from number_json first numbers.now) printer.old result printer.new }
 {
     let mut place = 0;
     while place < numbers.len() {
@@ -292,7 +241,6 @@ fn write_json_numbers<K: Sink>(
 /// Writes values in up to four parts as the items of a JSON list.
 #[inline(never)]
 fn write_json_parts<K: Sink>(printer: &mut Printer<K>, values: &PackedValues) -> Result<(), Fault>
-    ensures { Prints (joined number_json values.now) printer.old result printer.new }
 {
     let parts = values.parts();
     let recent = values.len() - parts.recent.len() as u64;
@@ -306,7 +254,6 @@ fn write_json_parts<K: Sink>(printer: &mut Printer<K>, values: &PackedValues) ->
 
 /// Writes values as the items of a JSON list. Those of most records are one part.
 fn write_json_items<K: Sink>(printer: &mut Printer<K>, values: &PackedValues) -> Result<(), Fault>
-    ensures { Prints (joined number_json values.now) printer.old result printer.new }
 {
     let recent = values.parts().recent;
     if recent.len() as u64 == values.len() {
@@ -323,9 +270,6 @@ fn write_json_pieces<K: Sink>(
     noted: Noted,
     values: &PackedValues,
 ) -> Result<(), Fault>
-    ensures { Prints (list_line (codes "record")
-        (noted_fields around noted.first noted.code noted.abbreviation noted.count)
-        (codes "values") (joined number_json values.now)) printer.old result printer.new }
 {
     printer.noted_list(around, noted)?;
     write_json_items(printer, values)?;
@@ -341,9 +285,6 @@ fn write_json_whole<K: Sink>(
     noted: Noted,
     values: &PackedValues,
 ) -> Result<bool, Fault>
-    ensures { PrintsWhole (list_line (codes "record")
-        (noted_fields around noted.first noted.code noted.abbreviation noted.count)
-        (codes "values") (joined number_json values.now)) printer.old result printer.new }
 {
     match few_of(values) {
         Some(few) => printer.json_record(around, noted, few),
@@ -352,16 +293,12 @@ fn write_json_whole<K: Sink>(
 }
 
 /// Writes the line of a record with its values as JSON.
-#[tactic(auto, using(crate::proofs::Prints::whole_printed, crate::proofs::Prints::pieces_follow))]
 fn write_json_values<K: Sink>(
     printer: &mut Printer<K>,
     around: u32,
     noted: Noted,
     values: &PackedValues,
 ) -> Result<(), Fault>
-    ensures { Prints (list_line (codes "record")
-        (noted_fields around noted.first noted.code noted.abbreviation noted.count)
-        (codes "values") (joined number_json values.now)) printer.old result printer.new }
 {
     if write_json_whole(printer, around, noted, values)? {
         return Ok(());
@@ -377,9 +314,6 @@ fn write_json_record<K: Sink>(
     values: ValueDisplay,
     listed: &PackedValues,
 ) -> Result<(), Fault>
-    ensures { Prints (noted_json values
-        (noted_fields around noted.first noted.code noted.abbreviation noted.count) listed.now)
-        printer.old result printer.new }
 {
     match values {
         ValueDisplay::Shown => write_json_values(printer, around, noted, listed),
@@ -395,8 +329,6 @@ fn write_json_line<K: Sink>(
     event: &PackedEvent<'_>,
     values: ValueDisplay,
 ) -> Result<(), Fault>
-    ensures { Prints (event_json values around (event_shown event.now)) printer.old result
-        printer.new }
 {
     match *event {
         Event::Enter {
@@ -443,8 +375,6 @@ fn write_styled<K: Sink>(
     event: &PackedEvent<'_>,
     style: EventStyle,
 ) -> Result<(), Fault>
-    ensures { Prints (styled_event style around (event_shown event.now)) printer.old result
-        printer.new }
 {
     match style.format {
         Format::Text => write_line(printer, around, event, style.values),
@@ -454,7 +384,6 @@ fn write_styled<K: Sink>(
 
 /// Writes the line of a head's magic.
 fn write_head<K: Sink>(printer: &mut Printer<K>, head: Head, format: Format) -> Result<(), Fault>
-    ensures { Prints (head_as format (head_told head)) printer.old result printer.new }
 {
     let begin = begin_of(head);
     match format {
@@ -470,7 +399,6 @@ fn write_refusal<K: Sink>(
     reason: Reason,
     bit: u64,
 ) -> Result<(), Fault>
-    ensures { Prints (refusal_as format reason bit) printer.old result printer.new }
 {
     match format {
         Format::Text => Ok(()),
@@ -480,7 +408,6 @@ fn write_refusal<K: Sink>(
 
 /// Writes the line of a fault, if it has one.
 fn write_fault<K: Sink>(printer: &mut Printer<K>, format: Format, fault: Fault) -> Result<(), Fault>
-    ensures { Prints (fault_as format fault) printer.old result printer.new }
 {
     match fault {
         Fault::Refused { reason, bit } => write_refusal(printer, format, reason, bit),
@@ -490,8 +417,6 @@ fn write_fault<K: Sink>(printer: &mut Printer<K>, format: Format, fault: Fault) 
 
 /// Writes the line of a fault, if it has one, and all buffered text.
 fn write_end<K: Sink>(printer: &mut Printer<K>, format: Format, fault: Fault) -> Result<(), Fault>
-    ensures prints { Prints (fault_as format fault) printer.old result printer.new }
-    ensures all { OnOk result (printer.new.held ≡ []) }
 {
     write_fault(printer, format, fault)?;
     printer.finish()
@@ -499,7 +424,6 @@ fn write_end<K: Sink>(printer: &mut Printer<K>, format: Format, fault: Fault) ->
 
 /// Ends with a fault: writes its line, if it has one, and all buffered text. Returns that fault, or the fault of that writing.
 fn write_last<K: Sink>(printer: &mut Printer<K>, format: Format, fault: Fault) -> Fault
-    ensures { PrintsLast (fault_as format fault) fault printer.old result printer.new }
 {
     match write_end(printer, format, fault) {
         Ok(()) => fault,
@@ -510,9 +434,6 @@ fn write_last<K: Sink>(printer: &mut Printer<K>, format: Format, fault: Fault) -
 /// The values of a record that are shown, of few.
 #[inline(always)]
 fn shown_few(values: ValueDisplay, few: &[u64]) -> &[u64]
-    requires { length few.now ≤ 64 }
-    ensures shown { values_text result.now ≡ shown_values values few.now }
-    ensures few { length result.now ≤ 64 }
 {
     match values {
         ValueDisplay::Shown => few,
@@ -529,10 +450,6 @@ fn write_noted_few<K: Sink>(
     values: ValueDisplay,
     few: &[u64],
 ) -> Result<bool, Fault>
-    requires count { noted.count ≡ length few.now }
-    requires few { length few.now ≤ 64 }
-    ensures { PrintsWhole (line_at noted.first around
-        (noted_text values noted.code noted.abbreviation few.now)) printer.old result printer.new }
 {
     printer.noted_record(around, noted, shown_few(values, few))
 }
@@ -546,10 +463,6 @@ fn write_json_few<K: Sink>(
     values: ValueDisplay,
     few: &[u64],
 ) -> Result<bool, Fault>
-    requires { length few.now ≤ 64 }
-    ensures { PrintsWhole (noted_json values
-        (noted_fields around noted.first noted.code noted.abbreviation noted.count) few.now)
-        printer.old result printer.new }
 {
     match values {
         ValueDisplay::Shown => printer.json_record(around, noted, few),
@@ -569,15 +482,6 @@ fn write_few<K: Sink>(
     few: &[u64],
     style: EventStyle,
 ) -> Result<bool, Fault>
-    requires count { noted.count ≡ length few.now }
-    requires few { length few.now ≤ 64 }
-    ensures { (after : ℕ) → PrintsWhole (styled_event style around (notes (record {
-      abbreviation = noted.abbreviation;
-      code = noted.code;
-      values = few.now;
-      first = noted.first;
-      after = after;
-    }))) printer.old result printer.new }
 {
     match style.format {
         Format::Text => write_noted_few(printer, around, noted, style.values, few),
@@ -599,7 +503,6 @@ struct EventWriter<K: Sink> {
 impl<K: Sink> EventWriter<K> {
     /// Returns the sink.
     fn into_sink(self) -> K
-        ensures { K.outgoing result ≡ self.printer.outgoing }
     {
         let EventWriter {
             printer,
@@ -614,14 +517,6 @@ impl<K: Sink> EventWriter<K> {
     /// Writes the line of an event.
     #[inline(always)]
     fn write(&mut self, event: PackedEvent<'_>) -> Result<(), AllocError>
-        ensures written { OnOk result (Printed (styled_event self.old.style self.old.around
-            (event_shown event.entry)) self.old.printer self.new.printer) }
-        ensures fails { OnErr result (FailsLine self.old.style self.old.around self.old.printer
-            (Some (event_shown event.entry)) self.new.stopped self.new.printer) }
-        ensures style { self.new.style ≡ self.old.style }
-        ensures around { OnOk result (self.new.around
-            ≡ open_after (event_shown event.entry) self.old.around) }
-        ensures stopped { OnOk result (self.new.stopped ≡ self.old.stopped) }
     {
         let Some(next) = around_after(self.around, &event) else {
             self.stopped = Some(Fault::Memory);
@@ -634,9 +529,26 @@ impl<K: Sink> EventWriter<K> {
     }
 }
 
+impl<K: Sink> RunCounter for EventWriter<K> {
+    #[inline(always)]
+    fn count(&mut self, record: CountedRecord, values: &[u64]) -> Result<bool, AllocError> {
+        let noted = Noted {
+            first: record.first,
+            code: record.code,
+            abbreviation: record.id as u32,
+            count: record.count,
+        };
+        match write_few(&mut self.printer, self.around, noted, values, self.style) {
+            Ok(is_added) => Ok(is_added),
+            Err(fault) => {
+                self.stopped = Some(fault);
+                Err(AllocError)
+            }
+        }
+    }
+}
+
 impl<K: Sink> Gatherer for EventWriter<K> {
-    ghost use Rattle.std.specs.Prelude.{◌≡◌};
-    ghost use Rattle.bit_scan.specs.Telling.{FailsLine, WroteLines};
 
     type Values = PackedValues;
 
@@ -685,32 +597,13 @@ impl<K: Sink> Gatherer for EventWriter<K> {
     }
 
     #[inline(always)]
-    fn takes_few(&self) -> bool {
+    fn passes(&self) -> bool {
         true
     }
 
     #[inline(always)]
-    fn few(
-        &mut self,
-        id: u32,
-        code: u64,
-        values: &[u64],
-        first: u64,
-        after: u64,
-    ) -> Result<bool, AllocError> {
-        let noted = Noted {
-            first,
-            code,
-            abbreviation: id,
-            count: values.len() as u64,
-        };
-        match write_few(&mut self.printer, self.around, noted, values, self.style) {
-            Ok(is_added) => Ok(is_added),
-            Err(fault) => {
-                self.stopped = Some(fault);
-                Err(AllocError)
-            }
-        }
+    fn pass(&mut self, next: Coming<'_>, definitions: &InForce) -> Result<PassedRun, AllocError> {
+        list_records(next, definitions, self)
     }
 
     fn leave(&mut self, after: u64) -> Result<(), AllocError> {
@@ -723,12 +616,6 @@ fn write_rest<S: Source, K: Sink>(
     events: &mut PackedEvents<S>,
     writer: &mut EventWriter<K>,
 ) -> Result<(), Fault>
-    requires goes { events.old.stage ≡ going }
-    requires outside { events.old.depth ≡ 0 }
-    requires around { writer.old.around ≡ 0 }
-    requires wrote { writer.old.stopped ≡ None }
-    ensures { TellsRest writer.old.style 0 events.old writer.old.printer result events.new
-        writer.new.printer }
 {
     let done = events.gather(writer);
     if let Some(fault) = writer.stopped {
@@ -745,12 +632,6 @@ fn write_all<S: Source, K: Sink>(
     events: &mut PackedEvents<S>,
     writer: &mut EventWriter<K>,
 ) -> Result<(), Fault>
-    requires goes { events.old.stage ≡ going }
-    requires outside { events.old.depth ≡ 0 }
-    requires around { writer.old.around ≡ 0 }
-    requires wrote { writer.old.stopped ≡ None }
-    ensures { TellsAll writer.old.style events.old writer.old.printer result events.new
-        writer.new.printer }
 {
     let head = *events.head();
     write_head(&mut writer.printer, head, writer.style.format)?;
@@ -773,8 +654,6 @@ pub fn write_events<S: Source, K: Sink>(
     limits: Limits,
     style: EventStyle,
 ) -> (Result<(), Fault>, S, K)
-    ensures { TellsInput style limits (S.incoming source) (K.outgoing sink) result.0
-        (S.incoming result.1) (K.outgoing result.2) }
 {
     let mut writer = EventWriter {
         alloc,

@@ -1,0 +1,28 @@
+//! Lists of operands, however they are held.
+
+use crate::held::first_in;
+use crate::held_op::HeldOp;
+use bit_grammar::Op;
+
+/// Operands one after another.
+pub(crate) trait OpList: Copy {
+    /// The first operand and those behind it, if there is one.
+    fn parted(self) -> Option<(Op, Self)>;
+}
+
+impl<'a> OpList for &'a [Op] {
+    #[inline(always)]
+    fn parted(self) -> Option<(Op, &'a [Op])> {
+        match self {
+            [op, rest @ ..] => Some((*op, rest)),
+            _ => None,
+        }
+    }
+}
+
+impl<'a> OpList for &'a [HeldOp] {
+    #[inline(always)]
+    fn parted(self) -> Option<(Op, &'a [HeldOp])> {
+        first_in(self)
+    }
+}
