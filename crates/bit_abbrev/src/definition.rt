@@ -1,19 +1,54 @@
-//! Reading definitions.
+//! Reading definitions: from buffered bits, and by a reader, which judges them and asks its source.
 
-
-use crate::abbrev::{Abbrev, Ops, fits, place_after};
-use crate::op_row::{OpRow, ROW};
-use crate::op_taker::OpTaker;
-use crate::short_op::short_op;
+use crate::abbrev::{Abbrev, Ops, fits, kind_of, place_after};
+use crate::held_op::{HeldOp, push};
+use crate::layout::{Layout, layout_of};
 use crate::widths::{is_fixed_width, is_vbr_width};
 use bit_fields::{BitReader, Fault, PlacedBits, Source};
 use bit_grammar::{Kind, Op, Place, Reason, Shapes};
-use smallvec::SmallVec;
 use std::alloc::{AllocError, Global};
 
+/// Operands that were read: how many, and how the fields of their records are laid out.
+#[derive(Clone, Copy)]
+pub(crate) struct ReadOps {
+    pub(crate) count: u64,
+    pub(crate) layout: Layout,
+}
+
+impl ReadOps {
+    /// How many single operands come behind the first one, if the layout is neither `Odd` nor `Unlawful`.
+    #[inline(always)]
+    pub(crate) fn singles(self) -> u8 {
+        match self.layout {
+            Layout::Singles | Layout::Coded => self.count as u8 - 1,
+            Layout::List => self.count as u8 - 3,
+            Layout::Odd | Layout::Unlawful => 0,
+        }
+    }
+}
+
+/// Takes operands that are read.
+trait OpTaker {
+    /// Takes an operand. If there is no memory for it, nothing changes.
+    fn take(&mut self, op: Op) -> Result<(), AllocError>;
+}
+
+impl OpTaker for Ops {
+    #[inline(always)]
+    fn take(&mut self, op: Op) -> Result<(), AllocError> {
+        Ok(self.push(op)?)
+    }
+}
+
+impl OpTaker for Vec<HeldOp> {
+    #[inline(always)]
+    fn take(&mut self, op: Op) -> Result<(), AllocError> {
+        push(self, op)
+    }
+}
+
 /// Reads the flag of an operand, and its encoding if it has one.
-fn read_kind<S: Source>(reader: &mut BitReader<S>) -> Result<Kind, Fault>
-{
+fn read_kind<S: Source>(reader: &mut BitReader<S>) -> Result<Kind, Fault> {
     if reader.fixed(1)? == 1 {
         return Ok(Kind::Literal);
     }
@@ -32,8 +67,7 @@ fn read_kind<S: Source>(reader: &mut BitReader<S>) -> Result<Kind, Fault>
 }
 
 /// Reads the value of an operand of this kind.
-fn read_value<S: Source>(reader: &mut BitReader<S>, kind: Kind) -> Result<Op, Fault>
-{
+fn read_value<S: Source>(reader: &mut BitReader<S>, kind: Kind) -> Result<Op, Fault> {
     match kind {
         Kind::Literal => Ok(Op::Literal(reader.vbr(8)?)),
         Kind::Fixed => {
@@ -54,113 +88,81 @@ fn read_value<S: Source>(reader: &mut BitReader<S>, kind: Kind) -> Result<Op, Fa
     }
 }
 
-/// Whether the shape of an operand passes where it is defined: if shapes are judged at their use, it always does.
-pub(crate) fn passes(shapes: Shapes, fits: bool) -> bool
-{
-    match shapes {
-        Shapes::AtDefinition => fits,
-        Shapes::AtUse => true,
-    }
-}
-
-/// Reads an operand at a place, with `after` operands after it.
-fn read_operand<S: Source>(
-    reader: &mut BitReader<S>,
-    shapes: Shapes,
-    place: Place,
-    after: u64,
-) -> Result<Op, Fault>
-{
-    let first = reader.position();
-    let kind = read_kind(reader)?;
-    let passed = passes(shapes, fits(place, after, kind));
-    reader.judge(passed, Reason::AbbrevShape, first)?;
-    read_value(reader, kind)
-}
-
-/// How many operands a definition has at most that is read from buffered bits.
-const MOST_PLACED: u64 = 64;
-
-/// Many operands while they are read.
-type Gathered = SmallVec<Op, 8>;
-
-/// How many operands are copied at most: a list that is made smaller leaves gaps in memory, and a copy of a long one costs as much
-/// again.
-const COPIED: usize = 4096;
-
-impl OpTaker for Gathered {
-
-    ghost added = { λ first ops last. last.items ≡ first.items ++ ops };
-
-    #[inline(always)]
-    fn take(&mut self, op: Op) -> Result<(), AllocError> {
-        match self.push(op) {
-            Ok(()) => Ok(()),
-            Err(_) => Err(AllocError),
-        }
-    }
-}
-
-/// Reads `count` operands into a list. If it fails, some may have been added.
-#[inline(always)]
-pub(crate) fn read_operands<S: Source, T: OpTaker>(
-    reader: &mut BitReader<S>,
-    shapes: Shapes,
-    count: u64,
-    list: &mut T,
-) -> Result<(), Fault>
-{
-    let mut place = Place::First;
-    for i in 0..count {
-        let op = read_operand(reader, shapes, place, count - 1 - i)?;
-        place = place_after(op);
-        match list.take(op) {
-            Ok(()) => {}
-            Err(_) => return Err(reader.fail(Fault::Memory)),
-        }
-    }
-    Ok(())
-}
-
-/// The same operands, without room for more.
-#[cold]
-#[inline(never)]
-fn shrunk(gathered: Gathered) -> Result<Ops, AllocError>
-{
-    let mut ops = gathered.into_vec()?;
-    ops.shrink_to_fit();
-    Ok(Ops::from_vec(ops))
-}
-
 /// Reads the number of operands of a definition, after its abbreviation id.
-#[inline(always)]
-pub fn read_count<S: Source>(reader: &mut BitReader<S>) -> Result<u64, Fault>
-{
+fn read_count<S: Source>(reader: &mut BitReader<S>) -> Result<u64, Fault> {
     let first = reader.position();
     let count = reader.vbr(5)?;
     reader.judge(count != 0, Reason::AbbrevEmpty, first)?;
     Ok(count)
 }
 
-/// Reads the operands of a definition, after their number.
-pub fn read_ops<S: Source>(
-    alloc: Global,
+/// What is known of a definition behind some of its operands: the place of the next one, whether those are in a lawful order, and
+/// whether one of them is a number in chunks of no bits.
+#[derive(Clone, Copy)]
+struct Sofar {
+    place: Place,
+    is_lawful: bool,
+    has_empty: bool,
+}
+
+impl Sofar {
+    /// Before the first operand.
+    const NONE: Sofar = Sofar {
+        place: Place::First,
+        is_lawful: true,
+        has_empty: false,
+    };
+
+    /// Behind another operand, which may be where it is or not.
+    #[inline(always)]
+    fn behind(self, op: Op, fits: bool) -> Sofar {
+        Sofar {
+            place: place_after(op),
+            is_lawful: self.is_lawful && fits,
+            has_empty: self.has_empty || matches!(op, Op::Vbr(0)),
+        }
+    }
+}
+
+/// Reads a definition after its abbreviation id: its operands come behind those of a list. If it fails, some may have been added. If
+/// shapes are judged at their use, operands in any order are read.
+fn read_operands<S: Source, T: OpTaker>(
     reader: &mut BitReader<S>,
     shapes: Shapes,
-    count: u64,
-) -> Result<Abbrev, Fault>
-{
-    let mut gathered = SmallVec::new(alloc);
-    read_operands(reader, shapes, count, &mut gathered)?;
-    let ops = if gathered.len() <= COPIED {
-        Ops::from_slice(alloc, gathered.as_slice())
-    } else {
-        shrunk(gathered)
-    };
-    match ops {
-        Ok(ops) => Ok(Abbrev::from_read(ops, shapes)),
-        Err(_) => Err(reader.fail(Fault::Memory)),
+    ops: &mut T,
+) -> Result<(u64, Sofar), Fault> {
+    let count = read_count(reader)?;
+    let mut sofar = Sofar::NONE;
+    for done in 0..count {
+        let first = reader.position();
+        let kind = read_kind(reader)?;
+        let fits = fits(sofar.place, count - 1 - done, kind);
+        reader.judge(fits || shapes == Shapes::AtUse, Reason::AbbrevShape, first)?;
+        let op = read_value(reader, kind)?;
+        if ops.take(op).is_err() {
+            return Err(reader.fail(Fault::Memory));
+        }
+        sofar = sofar.behind(op, fits);
     }
+    Ok((count, sofar))
+}
+
+/// Reads a definition after its abbreviation id: its operands come behind those of a list. If it fails, some may have been added.
+#[cold]
+#[inline(never)]
+pub(crate) fn read_definition<S: Source>(
+    reader: &mut BitReader<S>,
+    shapes: Shapes,
+    ops: &mut Vec<HeldOp>,
+) -> Result<ReadOps, Fault> {
+    let start = ops.len();
+    let (count, sofar) = read_operands(reader, shapes, ops)?;
+    let layout = if sofar.is_lawful {
+        layout_of(&ops[start..], count, sofar.has_empty)
+    } else {
+        Layout::Unlawful
+    };
+    Ok(ReadOps { count, layout })
 }
 
 /// Reads a definition after its abbreviation id. If shapes are judged at their use, operands in any order are read.
@@ -170,35 +172,44 @@ pub fn read_define<S: Source>(
     alloc: Global,
     reader: &mut BitReader<S>,
     shapes: Shapes,
-) -> Result<Abbrev, Fault>
-{
+) -> Result<Abbrev, Fault> {
     let first = reader.position();
-    let read = match read_count(reader) {
-        Ok(count) => read_ops(alloc, reader, shapes, count),
-        Err(fault) => Err(fault),
-    };
-    match read {
-        Ok(abbrev) => Ok(abbrev),
+    let mut ops = Ops::new(alloc);
+    match read_operands(reader, shapes, &mut ops) {
+        Ok(_) => Ok(Abbrev::of_read(ops)),
         Err(fault) => Err(reader.fail_at(fault, first)),
     }
 }
 
-/// An operand at a place, with `after` operands after it, and the bits behind it, if it is lawful there; 128 bits are there.
+/// An operand of few bits that is lawful at a place, `left` operands from the last one on, and how many bits it has: a literal below 128, a
+/// width below 16, or an operand without a value. The bits are the next nine.
 #[inline(always)]
-fn placed_operand<'a>(
-    bits: PlacedBits<'a>,
-    shapes: Shapes,
-    place: Place,
-    after: u64,
-) -> Option<(Op, PlacedBits<'a>)> {
-    if let Some(short) = short_op(bits.front(9), shapes, place, after) {
-        return Some((short.op, bits.after(u64::from(short.bits))));
-    }
-    if bits.front(1) == 1 {
-        let (value, behind) = bits.after(1).near_number(8, 64)?;
-        if !passes(shapes, fits(place, after, Kind::Literal)) {
+fn short_op(nine: u64, place: Place, left: u64) -> Option<(HeldOp, u64)> {
+    if nine & 1 == 1 {
+        if nine >= 256 || place == Place::Element {
             return None;
         }
+        return Some((HeldOp::Literal((nine >> 1) as u16), 9));
+    }
+    let width = (nine >> 4) as u8;
+    match nine & 15 {
+        2 if nine < 256 => Some((HeldOp::Fixed(width), 9)),
+        4 if nine < 256 && width > 1 => Some((HeldOp::Vbr(width), 9)),
+        6 if place == Place::Later && left == 2 => Some((HeldOp::Array, 4)),
+        8 => Some((HeldOp::Char6, 4)),
+        10 if place == Place::Later && left == 1 => Some((HeldOp::Blob, 4)),
+        _ => None,
+    }
+}
+
+/// Another operand that is lawful at a place, and the bits behind it; 128 bits are there.
+#[inline(always)]
+fn long_op<'a>(bits: PlacedBits<'a>, place: Place) -> Option<(Op, PlacedBits<'a>)> {
+    if bits.front(1) == 1 {
+        if place == Place::Element {
+            return None;
+        }
+        let (value, behind) = bits.after(1).near_number(8, 64)?;
         return Some((Op::Literal(value), behind));
     }
     let (width, behind) = bits.after(4).near_number(5, 64)?;
@@ -209,72 +220,56 @@ fn placed_operand<'a>(
     }
 }
 
-/// The same of `count` operands, and the bit after them.
+/// The same as `read_operands` in buffered bits, for `count` operands that are lawful: what is known behind them, and the bit after them.
 #[inline(always)]
-fn placed_operands<T: OpTaker>(
+fn placed_operands(
     from: PlacedBits<'_>,
-    shapes: Shapes,
     count: u64,
-    list: &mut T,
-) -> Option<u64> {
-    let mut place = Place::First;
+    ops: &mut Vec<HeldOp>,
+) -> Option<(bool, u64)> {
     let mut bits = from;
-    for i in 0..count {
+    let mut place = Place::First;
+    let mut has_empty = false;
+    let mut left = count;
+    while left > 0 {
         if !bits.has(128) {
             return None;
         }
-        let (op, after) = placed_operand(bits, shapes, place, count - 1 - i)?;
-        place = place_after(op);
-        if list.take(op).is_err() {
-            return None;
+        if let Some((op, len)) = short_op(bits.front(9), place, left) {
+            ops.push(op).ok()?;
+            place = match op {
+                HeldOp::Array => Place::Element,
+                _ => Place::Later,
+            };
+            bits = bits.after(len);
+        } else {
+            let (op, after) = long_op(bits, place)?;
+            push(ops, op).ok()?;
+            has_empty |= matches!(op, Op::Vbr(0));
+            place = Place::Later;
+            bits = after;
         }
-        bits = after;
+        left -= 1;
     }
-    Some(bits.position())
+    Some((has_empty, bits.position()))
 }
 
-/// The definition with operands that were read, and the bit after it.
+/// The same as `read_definition` in buffered bits, with the bit after the definition. `None` leaves it to the reader: what is not there,
+/// and what is not lawful.
 #[inline(always)]
-fn made_of(alloc: Global, ops: &[Op], shapes: Shapes, after: u64) -> Option<(Abbrev, u64)> {
-    match Ops::from_slice(alloc, ops) {
-        Ok(ops) => Some((Abbrev::from_read(ops, shapes), after)),
-        Err(_) => None,
-    }
-}
-
-/// A definition of few operands, after its abbreviation id, and the bit after it, if it is there. `None` leaves it to the reader, also
-/// where an allocation fails.
-#[inline(always)]
-pub fn placed_define(
-    alloc: Global,
+pub(crate) fn placed_definition(
     fields: PlacedBits<'_>,
-    shapes: Shapes,
-) -> Option<(Abbrev, u64)> {
+    ops: &mut Vec<HeldOp>,
+) -> Option<(ReadOps, u64)> {
     if !fields.has(128) {
         return None;
     }
+    let start = ops.len();
     let (count, bits) = fields.number(5)?;
-    if count == 0 || count > MOST_PLACED {
+    if count == 0 {
         return None;
     }
-    if count > ROW as u64 {
-        return placed_many(alloc, bits, shapes, count);
-    }
-    let mut row = OpRow::new();
-    let after = placed_operands(bits, shapes, count, &mut row)?;
-    made_of(alloc, row.as_slice(), shapes, after)
-}
-
-/// The same of many operands, after their number.
-#[cold]
-#[inline(never)]
-fn placed_many(
-    alloc: Global,
-    bits: PlacedBits<'_>,
-    shapes: Shapes,
-    count: u64,
-) -> Option<(Abbrev, u64)> {
-    let mut gathered = SmallVec::new(alloc);
-    let after = placed_operands(bits, shapes, count, &mut gathered)?;
-    made_of(alloc, gathered.as_slice(), shapes, after)
+    let (has_empty, after) = placed_operands(bits, count, ops)?;
+    let layout = layout_of(&ops[start..], count, has_empty);
+    Some((ReadOps { count, layout }, after))
 }

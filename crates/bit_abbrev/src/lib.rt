@@ -12,43 +12,31 @@
 #![tactic(auto)]
 
 mod abbrev;
-mod builder;
 mod definition;
-mod finished;
-mod found;
-mod from_table;
-mod held;
+mod definitions;
 mod held_op;
-mod held_record;
-mod in_force;
 mod info;
 mod laws;
 mod layout;
 mod op_list;
-mod op_row;
-mod op_taker;
 mod plan;
-mod ready;
 mod record;
-mod short_op;
-mod tail;
 mod taking;
 mod walk;
 mod widths;
 
 pub use abbrev::{Abbrev, BadAbbrev, Ops};
 pub use bit_grammar::Op;
-pub use builder::InfoBuilder;
-pub use definition::{placed_define, read_count, read_define, read_ops};
-pub use found::Found;
-pub use held::HeldOps;
-pub use in_force::{Definitions, InForce, SharedInfo};
+pub use definition::read_define;
+pub use definitions::{Definitions, Entered, Head, InForce, Marks};
+pub use held_op::{HeldOp, HeldOps};
 pub use info::InfoTable;
 pub use laws::lawful_unbroken;
 pub use layout::Layout;
-pub use plan::MARGIN;
-pub use record::{read_abbreviated, read_held_record, read_plain, read_record};
+pub use plan::{MARGIN, Plan};
+pub use record::{Begun, read_abbreviated, read_record};
 pub use taking::{Taken, take_record};
 pub use walk::{
     Coming, Counting, FEW, FIELDS, Here, Listing, MOST_VALUES, Planned, Visitor, Walked, value_of,
+    walk,
 };

@@ -1,7 +1,6 @@
 //! Lists of operands, however they are held.
 
-use crate::held::first_in;
-use crate::held_op::HeldOp;
+use crate::held_op::HeldOps;
 use bit_grammar::Op;
 
 /// Operands one after another.
@@ -20,9 +19,9 @@ impl<'a> OpList for &'a [Op] {
     }
 }
 
-impl<'a> OpList for &'a [HeldOp] {
+impl<'a> OpList for HeldOps<'a> {
     #[inline(always)]
-    fn parted(self) -> Option<(Op, &'a [HeldOp])> {
-        first_in(self)
+    fn parted(self) -> Option<(Op, HeldOps<'a>)> {
+        self.split_first()
     }
 }

@@ -1,8 +1,9 @@
 //! Reading records by a reader, which judges them and asks its source.
 
 use crate::abbrev::Abbrev;
-use crate::held::HeldOps;
-use crate::held_record::lawful_in;
+use crate::definitions::InForce;
+use crate::held_op::held;
+use crate::layout::Layout;
 use crate::op_list::OpList;
 use crate::taking::take_some;
 use bit_fields::{BitReader, Fault, Source, ValueTaker};
@@ -64,7 +65,7 @@ fn read_some<S: Source, V: ValueTaker>(
 ) -> Result<u64, Fault> {
     let bits = reader.bits();
     let first = bits.position();
-    let Ok((count, after)) = take_some(bits, most, op, values) else {
+    let Ok((count, after)) = take_some(bits, most, held(op), values) else {
         return Err(reader.fail(Fault::Memory));
     };
     let len = after.position() - first;
@@ -110,76 +111,95 @@ fn read_list<S: Source, V: ValueTaker>(
     reader.pad()
 }
 
-/// Reads a record by its operands. After the first one, `count` of them give one value each.
+/// How many operands give one value each. All are in a lawful order.
+fn singles_in<O: OpList>(ops: O) -> u64 {
+    let mut left = ops;
+    let mut count = 0;
+    while let Some((op, rest)) = left.parted() {
+        if let Op::Array | Op::Blob = op {
+            break;
+        }
+        count += 1;
+        left = rest;
+    }
+    count
+}
+
+/// Reads the values of a record by the operands behind its code, of which the single ones fit into the room.
+fn read_behind_code<O: OpList, S: Source, V: ValueTaker>(
+    reader: &mut BitReader<S>,
+    ops: O,
+    room: u64,
+    values: &mut V,
+) -> Result<(), Fault> {
+    let mut left = ops;
+    while let Some((op, rest)) = left.parted() {
+        if let Op::Array | Op::Blob = op {
+            let element = match rest.parted() {
+                Some((element, _)) => Some(element),
+                None => None,
+            };
+            return read_list(reader, room, element, values);
+        }
+        let value = read_scalar(reader, op)?;
+        keep(reader, values, value)?;
+        left = rest;
+    }
+    Ok(())
+}
+
+/// Reads a record by its operands, which are in a lawful order, after its abbreviation id, which began at `first`.
 fn read_by<O: OpList, S: Source, V: ValueTaker>(
     reader: &mut BitReader<S>,
-    code_op: Op,
-    others: O,
-    count: u64,
+    ops: O,
     first: u64,
     room: u64,
     values: &mut V,
 ) -> Result<u64, Fault> {
+    let Some((code_op, others)) = ops.parted() else {
+        unreachable!();
+    };
+    let count = singles_in(others);
     reader.judge(count <= room, Reason::TooManyValues, first)?;
     let code = read_scalar(reader, code_op)?;
-    let mut left = others;
-    while let Some((op, rest)) = left.parted() {
-        match op {
-            Op::Array | Op::Blob => {
-                let element = match rest.parted() {
-                    Some((element, _)) => Some(element),
-                    None => None,
-                };
-                read_list(reader, room - count, element, values)?;
-                return Ok(code);
-            }
-            op => {
-                let value = read_scalar(reader, op)?;
-                keep(reader, values, value)?;
-            }
-        }
-        left = rest;
-    }
+    read_behind_code(reader, others, room - count, values)?;
     Ok(code)
 }
 
-/// Reads a record by its definition, after its abbreviation id, which began at `first`: gives its values to the value sink and
-/// returns its code. If it fails, some of its values may have been added.
-pub fn read_record<S: Source, V: ValueTaker>(
-    reader: &mut BitReader<S>,
-    abbrev: &Abbrev,
-    first: u64,
-    room: u64,
-    values: &mut V,
-) -> Result<u64, Fault> {
-    let Some((code_op, others)) = abbrev.lawful_ops().parted() else {
-        unreachable!();
-    };
-    read_by(reader, code_op, others, abbrev.singles(), first, room, values)
+/// An abbreviation id that was read, from 3 on, and its first bit.
+#[derive(Clone, Copy)]
+pub struct Begun {
+    pub id: u64,
+    pub first: u64,
 }
 
-/// The same by a definition that is held in few bytes. One whose operands are in no lawful order is `AbbrevShape` at `first`.
-#[cold]
-#[inline(never)]
-pub fn read_held_record<S: Source, V: ValueTaker>(
+/// Reads a record after its abbreviation id: gives its values to the value sink and returns its code. If it fails, some of its values
+/// may have been added. An id without a definition is `UndefinedAbbrev`, and one whose operands are in no lawful order `AbbrevShape`.
+/// Source: "Abbreviation IDs".
+pub fn read_record<S: Source, V: ValueTaker>(
     reader: &mut BitReader<S>,
-    ops: HeldOps<'_>,
-    first: u64,
+    definitions: &InForce<'_>,
+    begun: Begun,
     room: u64,
     values: &mut V,
 ) -> Result<u64, Fault> {
-    let lawful = lawful_in(ops.held);
-    reader.judge(lawful.is_some(), Reason::AbbrevShape, first)?;
-    let Some((code_op, others, count)) = lawful else {
+    let Begun { id, first } = begun;
+    if id == 3 {
+        return read_plain(reader, room, values);
+    }
+    let Some(head) = definitions.head(id) else {
+        reader.judge(false, Reason::UndefinedAbbrev, first)?;
         unreachable!();
     };
-    read_by(reader, code_op, others, count, first, room, values)
+    let is_lawful = head.layout != Layout::Unlawful;
+    reader.judge(is_lawful, Reason::AbbrevShape, first)?;
+    read_by(reader, definitions.held(id, head), first, room, values)
 }
 
 /// Reads a record that is not abbreviated, after its abbreviation id: gives its values to the value sink and returns its code. If
 /// it fails, some of its values may have been added. More than `room` values are `TooManyValues` at the first bit of their number.
 /// Source: "UNABBREV_RECORD Encoding".
-pub fn read_plain<S: Source, V: ValueTaker>(
+fn read_plain<S: Source, V: ValueTaker>(
     reader: &mut BitReader<S>,
     room: u64,
     values: &mut V,
@@ -208,7 +228,7 @@ pub fn read_abbreviated<S: Source, V: ValueTaker>(
     }
     let start = reader.position();
     let before = values.count();
-    match read_record(reader, abbrev, first, room, values) {
+    match read_by(reader, abbrev.ops(), first, room, values) {
         Ok(code) => Ok(code),
         Err(fault) => {
             values.truncate(before);

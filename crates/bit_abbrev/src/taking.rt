@@ -1,25 +1,22 @@
 //! Records whose values go to a value sink, read from buffered bits one field after another: records of any definition, up to the end
 //! of the bits.
 
-use crate::abbrev::Abbrev;
-use crate::found::Found;
-use crate::held_record::lawful_in;
-use crate::in_force::InForce;
-use crate::op_list::OpList;
+use crate::definitions::InForce;
+use crate::held_op::{HeldOp, great_value};
+use crate::layout::Layout;
 use crate::walk::value_of;
 use bit_fields::{ChunkTops, ChunkWidth, FieldWidth, NotTaken, PlacedBits, ValueTaker};
-use bit_grammar::Op;
 
 /// How many fields of one width are passed over at once at most, so that their bits can be counted.
 const MOST_SKIPPED: u64 = 1 << 32;
 
 /// Passes over at most so many fields of a single operand. Returns how many are there, and the bits behind them.
 #[inline(always)]
-pub(crate) fn skip_some<'a>(bits: PlacedBits<'a>, most: u64, op: Op) -> (u64, PlacedBits<'a>) {
+pub(crate) fn skip_some<'a>(bits: PlacedBits<'a>, most: u64, op: HeldOp) -> (u64, PlacedBits<'a>) {
     let width = match op {
-        Op::Vbr(width) => return skip_numbers(bits, most, ChunkWidth::of(width)),
-        Op::Fixed(width) => width,
-        Op::Literal(_) => 0,
+        HeldOp::Vbr(width) => return skip_numbers(bits, most, ChunkWidth::of(width)),
+        HeldOp::Fixed(width) => width,
+        HeldOp::Literal(_) => 0,
         _ => 6,
     };
     if width == 0 {
@@ -59,7 +56,7 @@ fn skip_numbers<'a>(from: PlacedBits<'a>, most: u64, n: ChunkWidth) -> (u64, Pla
 fn take_each<'a, V: ValueTaker>(
     from: PlacedBits<'a>,
     most: u64,
-    op: Op,
+    op: HeldOp,
     values: &mut V,
 ) -> Result<(u64, PlacedBits<'a>), NotTaken> {
     let mut bits = from;
@@ -89,12 +86,12 @@ fn take_each<'a, V: ValueTaker>(
 pub(crate) fn take_some<'a, V: ValueTaker>(
     bits: PlacedBits<'a>,
     most: u64,
-    op: Op,
+    op: HeldOp,
     values: &mut V,
 ) -> Result<(u64, PlacedBits<'a>), NotTaken> {
     match op {
-        Op::Vbr(6) => take_each(bits, most, Op::Vbr(6), values),
-        Op::Fixed(8) => {
+        HeldOp::Vbr(6) => take_each(bits, most, HeldOp::Vbr(6), values),
+        HeldOp::Fixed(8) => {
             let bytes = bits.whole_bytes(most);
             if bytes.is_empty() {
                 return take_each(bits, most, op, values);
@@ -112,12 +109,12 @@ pub(crate) fn take_some<'a, V: ValueTaker>(
 fn take_all<'a, V: ValueTaker>(
     bits: PlacedBits<'a>,
     count: u64,
-    op: Op,
+    op: HeldOp,
     values: &mut V,
 ) -> Option<PlacedBits<'a>> {
     let taken = match op {
-        Op::Fixed(0) | Op::Vbr(0) => return None,
-        Op::Vbr(6) => take_each(bits, count, Op::Vbr(6), values),
+        HeldOp::Fixed(0) | HeldOp::Vbr(0) => return None,
+        HeldOp::Vbr(6) => take_each(bits, count, HeldOp::Vbr(6), values),
         op => take_some(bits, count, op, values),
     };
     match taken {
@@ -130,10 +127,20 @@ fn take_all<'a, V: ValueTaker>(
 #[inline(always)]
 fn take_one<'a, V: ValueTaker>(
     bits: PlacedBits<'a>,
-    op: Op,
+    op: HeldOp,
     values: &mut V,
 ) -> Option<PlacedBits<'a>> {
     let (value, after) = one_of(bits, op)?;
+    take_value(after, value, values)
+}
+
+/// Takes a value, if it is taken, before these bits.
+#[inline(always)]
+fn take_value<'a, V: ValueTaker>(
+    after: PlacedBits<'a>,
+    value: u64,
+    values: &mut V,
+) -> Option<PlacedBits<'a>> {
     match values.take(value) {
         Ok(()) => Some(after),
         Err(_) => None,
@@ -142,12 +149,12 @@ fn take_one<'a, V: ValueTaker>(
 
 /// The value of a single operand, if its field is there.
 #[inline(always)]
-fn one_of<'a>(bits: PlacedBits<'a>, op: Op) -> Option<(u64, PlacedBits<'a>)> {
+fn one_of<'a>(bits: PlacedBits<'a>, op: HeldOp) -> Option<(u64, PlacedBits<'a>)> {
     if !bits.has(64) {
         return None;
     }
     match op {
-        Op::Vbr(0) => Some((0, bits)),
+        HeldOp::Vbr(0) => Some((0, bits)),
         op => value_of(bits, op, 0),
     }
 }
@@ -155,7 +162,7 @@ fn one_of<'a>(bits: PlacedBits<'a>, op: Op) -> Option<(u64, PlacedBits<'a>)> {
 /// A number of values, at most `room`, and the bits after it.
 #[inline(always)]
 fn count_of<'a>(bits: PlacedBits<'a>, room: u64) -> Option<(u64, PlacedBits<'a>)> {
-    let (count, after) = one_of(bits, Op::Vbr(6))?;
+    let (count, after) = one_of(bits, HeldOp::Vbr(6))?;
     if count > room {
         return None;
     }
@@ -170,7 +177,7 @@ fn take_blob<'a, V: ValueTaker>(
     values: &mut V,
 ) -> Option<PlacedBits<'a>> {
     let (count, behind) = count_of(bits, room)?;
-    let after = take_all(behind.padded()?, count, Op::Fixed(8), values)?;
+    let after = take_all(behind.padded()?, count, HeldOp::Fixed(8), values)?;
     after.padded()
 }
 
@@ -181,69 +188,66 @@ pub struct Taken {
     pub after: u64,
 }
 
-/// Takes a record by its operands. After the first one, `count` of them give one value each.
+/// The code of a record of these operands, if its field is there.
 #[inline(always)]
-fn take_by<O: OpList, V: ValueTaker>(
-    fields: PlacedBits<'_>,
-    code_op: Op,
-    others: O,
-    count: u64,
-    room: u64,
-    values: &mut V,
-) -> Option<Taken> {
-    if count > room {
-        return None;
+fn code_of<'a>(fields: PlacedBits<'a>, ops: &[HeldOp]) -> Option<(u64, PlacedBits<'a>)> {
+    match ops[0] {
+        HeldOp::Great(_) => Some((great_value(ops), fields)),
+        op => one_of(fields, op),
     }
-    let (code, behind) = one_of(fields, code_op)?;
-    let mut bits = behind;
-    let mut left = others;
-    while let Some((op, rest)) = left.parted() {
-        left = rest;
-        match op {
-            Op::Blob => bits = take_blob(bits, room - count, values)?,
-            Op::Array => {
-                let (element, _) = rest.parted()?;
-                let (number, elements) = count_of(bits, room - count)?;
-                bits = take_all(elements, number, element, values)?;
-                break;
-            }
-            op => bits = take_one(bits, op, values)?,
-        }
-    }
-    let after = bits.position();
-    Some(Taken { code, after })
 }
 
-/// Takes a record by a definition that is held in few bytes, if there is one.
-#[cold]
-#[inline(never)]
-fn take_held<V: ValueTaker>(
+/// Takes the values of a record by the operands behind its code, and gives the bits behind its fields.
+#[inline(always)]
+fn take_behind_code<'a, V: ValueTaker>(
+    from: PlacedBits<'a>,
+    ops: &[HeldOp],
+    most: u64,
+    values: &mut V,
+) -> Option<PlacedBits<'a>> {
+    let mut bits = from;
+    let mut room = most;
+    let mut rest = ops;
+    while let [op, others @ ..] = rest {
+        match *op {
+            HeldOp::More(_) => {}
+            HeldOp::End => break,
+            HeldOp::Blob => bits = take_blob(bits, room, values)?,
+            HeldOp::Array => {
+                let (number, elements) = count_of(bits, room)?;
+                return take_all(elements, number, *others.first()?, values);
+            }
+            op => {
+                room = room.checked_sub(1)?;
+                bits = match op {
+                    HeldOp::Great(_) => take_value(bits, great_value(rest), values)?,
+                    op => take_one(bits, op, values)?,
+                };
+            }
+        }
+        rest = others;
+    }
+    Some(bits)
+}
+
+/// Takes a record by its definition.
+#[inline(always)]
+fn take_abbreviated<V: ValueTaker>(
     fields: PlacedBits<'_>,
-    definitions: &InForce,
+    definitions: &InForce<'_>,
     id: u64,
     room: u64,
     values: &mut V,
 ) -> Option<Taken> {
-    let Found::Held(ops) = definitions.find((id - 4) as usize)? else {
-        return None;
-    };
-    let (code_op, others, count) = lawful_in(ops.held)?;
-    take_by(fields, code_op, others, count, room, values)
-}
-
-/// Takes a record by a definition.
-#[inline(always)]
-fn take_abbreviated<V: ValueTaker>(
-    fields: PlacedBits<'_>,
-    abbrev: &Abbrev,
-    room: u64,
-    values: &mut V,
-) -> Option<Taken> {
-    if !abbrev.is_usable() {
+    let head = definitions.head(id)?;
+    if head.layout == Layout::Unlawful {
         return None;
     }
-    let (code_op, others) = abbrev.ops().parted()?;
-    take_by(fields, code_op, others, abbrev.singles(), room, values)
+    let ops = definitions.held(id, head).places;
+    let (code, behind) = code_of(fields, ops)?;
+    let after = take_behind_code(behind, &ops[1..], room, values)?;
+    let after = after.position();
+    Some(Taken { code, after })
 }
 
 /// Gives the values of a record after its id to a value sink. `None` if it is not whole, if a value is not taken, or if it is read
@@ -251,20 +255,17 @@ fn take_abbreviated<V: ValueTaker>(
 #[inline(always)]
 pub fn take_record<V: ValueTaker>(
     fields: PlacedBits<'_>,
-    definitions: &InForce,
+    definitions: &InForce<'_>,
     id: u64,
     room: u64,
     values: &mut V,
 ) -> Option<Taken> {
-    if id == 3 {
-        let (code, behind) = count_of(fields, u64::MAX)?;
-        let (count, rest) = count_of(behind, room)?;
-        let after = take_all(rest, count, Op::Vbr(6), values)?;
-        let after = after.position();
-        return Some(Taken { code, after });
+    if id > 3 {
+        return take_abbreviated(fields, definitions, id, room, values);
     }
-    match definitions.get((id - 4) as usize) {
-        Some(abbrev) => take_abbreviated(fields, abbrev, room, values),
-        None => take_held(fields, definitions, id, room, values),
-    }
+    let (code, behind) = count_of(fields, u64::MAX)?;
+    let (count, rest) = count_of(behind, room)?;
+    let after = take_all(rest, count, HeldOp::Vbr(6), values)?;
+    let after = after.position();
+    Some(Taken { code, after })
 }

@@ -1,12 +1,11 @@
 //! One walk over a record that lies whole in buffered bits, for any visitor.
 
-use crate::abbrev::Abbrev;
+use crate::definitions::{Head, InForce};
+use crate::held_op::{HeldOp, great_value};
 use crate::layout::Layout;
-use crate::op_list::OpList;
-use crate::plan::{Passed, pass_plain};
+use crate::plan::{Passed, Plan, pass_plain};
 use crate::taking::skip_some;
 use bit_fields::{PlacedBits, character};
-use bit_grammar::Op;
 
 /// How many values a record has at most that is walked over.
 pub const MOST_VALUES: u64 = 65536;
@@ -14,9 +13,10 @@ pub const MOST_VALUES: u64 = 65536;
 /// How many bits have to be behind a number that has more than 57: a load, and 32 fields of at most 57 bits.
 pub const FIELDS: u64 = 64 + 57 * 32;
 
-/// The next record: the bits from its id on, how many of them the id has, and how many values it may have.
+/// The next record: the place for its first value, the bits from its id on, how many of them the id has, and how many values it may have.
 #[derive(Clone, Copy)]
 pub struct Coming<'a> {
+    pub at: u64,
     pub bits: PlacedBits<'a>,
     pub width: u32,
     pub room: u64,
@@ -28,6 +28,12 @@ impl<'a> Coming<'a> {
     pub fn fields(self) -> PlacedBits<'a> {
         self.bits.after(u64::from(self.width))
     }
+
+    /// The abbreviation id, of which the bits are there.
+    #[inline(always)]
+    pub fn id(self) -> u64 {
+        self.bits.fixed(self.width)
+    }
 }
 
 /// Where a walk is: the place for the next value, and the bits that come next.
@@ -37,7 +43,7 @@ pub struct Here<'a> {
     pub bits: PlacedBits<'a>,
 }
 
-/// A record that was walked over: the visitor's place after it, the length of its fields in bits, its code and how many values it has.
+/// A record that was walked over: the place after its values, the length of its fields in bits, its code and how many values it has.
 #[derive(Clone, Copy)]
 pub struct Walked {
     pub at: u64,
@@ -47,16 +53,28 @@ pub struct Walked {
 }
 
 impl Walked {
-    /// A record that was passed over without its values, if it has at most so many.
+    /// A record that was passed over without its values, if it has at most as many as may come.
     #[inline(always)]
-    fn of(passed: Option<Passed>, at: u64, room: u64) -> Option<Walked> {
+    fn of(passed: Option<Passed>, next: Coming<'_>) -> Option<Walked> {
         let Passed { len, code, count } = passed?;
-        if count > room {
+        if count > next.room {
             return None;
         }
+        let at = next.at;
         Some(Walked {
             at,
             len,
+            code,
+            count,
+        })
+    }
+
+    /// A record whose fields are these, up to where the walk is.
+    #[inline(always)]
+    fn over(fields: PlacedBits<'_>, here: Here<'_>, code: u64, count: u64) -> Option<Walked> {
+        Some(Walked {
+            at: here.at,
+            len: here.bits.position() - fields.position(),
             code,
             count,
         })
@@ -90,7 +108,10 @@ pub trait Visitor<C>: Copy {
     }
 
     /// Whether there is room for an array with which a record has so many values.
-    fn fits(self, cells: &[C], at: u64, count: u64) -> bool;
+    #[inline(always)]
+    fn fits(self, _cells: &[C], _at: u64, _count: u64) -> bool {
+        false
+    }
 
     /// Takes what comes before the values of a record.
     #[inline(always)]
@@ -99,7 +120,10 @@ pub trait Visitor<C>: Copy {
     }
 
     /// Takes a value, or declines it.
-    fn value(self, cells: &mut [C], at: u64, value: u64) -> Option<u64>;
+    #[inline(always)]
+    fn value(self, _cells: &mut [C], _at: u64, _value: u64) -> Option<u64> {
+        None
+    }
 
     /// Takes a few numbers in chunks of six bits, if they can be taken at once.
     #[inline(always)]
@@ -108,28 +132,31 @@ pub trait Visitor<C>: Copy {
     }
 
     /// Takes numbers in chunks of six bits.
-    fn sixes<'a>(self, cells: &mut [C], here: Here<'a>, count: u64) -> Option<Here<'a>>;
+    #[inline(always)]
+    fn sixes<'a>(self, _cells: &mut [C], _here: Here<'a>, _count: u64) -> Option<Here<'a>> {
+        None
+    }
 
     /// Takes fields of another single operand.
-    fn fields<'a>(self, cells: &mut [C], here: Here<'a>, op: Op, count: u64) -> Option<Here<'a>>;
+    #[inline(always)]
+    fn fields<'a>(
+        self,
+        _cells: &mut [C],
+        _here: Here<'a>,
+        _op: HeldOp,
+        _count: u64,
+    ) -> Option<Here<'a>> {
+        None
+    }
 
     /// Walks over a record that is not abbreviated.
     #[inline(always)]
-    fn plain(self, cells: &mut [C], at: u64, next: Coming<'_>) -> Option<Walked> {
-        walk_plain(self, cells, at, next.fields(), next.room)
+    fn plain(self, cells: &mut [C], next: Coming<'_>) -> Option<Walked> {
+        walk_plain(self, cells, next)
     }
 
-    /// Walks over a record of this definition.
-    #[inline(always)]
-    fn abbreviated(
-        self,
-        cells: &mut [C],
-        at: u64,
-        next: Coming<'_>,
-        abbrev: &Abbrev,
-    ) -> Option<Walked> {
-        walk(self, cells, at, next.fields(), abbrev, next.room)
-    }
+    /// Walks over a record with an abbreviation id from 4 on.
+    fn abbreviated(self, cells: &mut [C], next: Coming<'_>, id: u64) -> Option<Walked>;
 
     /// Drops what was stored behind a place.
     #[inline(always)]
@@ -142,27 +169,78 @@ pub trait Visitor<C>: Copy {
     }
 }
 
-/// The value of a single operand, and the bits after its field. If a number has more than 57 bits, so many more are there.
+/// The value of a single operand that takes one place, and the bits after its field. If a number has more than 57 bits, so many more are
+/// there.
 #[inline(always)]
-pub fn value_of<'a>(bits: PlacedBits<'a>, op: Op, more: u64) -> Option<(u64, PlacedBits<'a>)> {
+pub fn value_of<'a>(bits: PlacedBits<'a>, op: HeldOp, more: u64) -> Option<(u64, PlacedBits<'a>)> {
     let (value, width) = match op {
-        Op::Literal(value) => (value, 0),
-        Op::Fixed(width) => (bits.front(u32::from(width)), u64::from(width)),
-        Op::Vbr(6) => return bits.near_six(more),
-        Op::Vbr(width) => return bits.near_number(u32::from(width), more),
+        HeldOp::Literal(value) => (u64::from(value), 0),
+        HeldOp::Fixed(width) => (bits.front(u32::from(width)), u64::from(width)),
+        HeldOp::Vbr(6) => return bits.near_six(more),
+        HeldOp::Vbr(width) => return bits.near_number(u32::from(width), more),
         _ => (character(bits.front(6)), 6),
     };
     Some((value, bits.after(width)))
 }
 
+/// A definition that is not odd: the places of its operands, and its head.
+#[derive(Clone, Copy)]
+struct Definition<'a> {
+    ops: &'a [HeldOp],
+    head: Head,
+}
+
+/// The code of a record, and the bits after its field.
+#[derive(Clone, Copy)]
+struct Coded<'a> {
+    code: u64,
+    bits: PlacedBits<'a>,
+}
+
+/// The code of a record of these operands.
+#[inline(always)]
+fn code_of<'a>(fields: PlacedBits<'a>, ops: &[HeldOp]) -> Option<Coded<'a>> {
+    let (code, bits) = match ops[0] {
+        HeldOp::Great(_) => (great_value(ops), fields),
+        op => value_of(fields, op, FIELDS)?,
+    };
+    Some(Coded { code, bits })
+}
+
 /// How many of the first operands are numbers in chunks of six bits, at most nine. The first one is.
 #[inline(always)]
-fn sixes_of(ops: &[Op]) -> usize {
+fn sixes_of(ops: &[HeldOp]) -> usize {
     let mut run = 1;
-    while run < ops.len() && run < 9 && matches!(ops[run], Op::Vbr(6)) {
+    while run < ops.len() && run < 9 && matches!(ops[run], HeldOp::Vbr(6)) {
         run += 1;
     }
     run
+}
+
+/// Takes the numbers in chunks of six bits with which these operands begin, if they are some that can be taken at once: how many, and
+/// where the walk then is.
+#[inline(always)]
+fn join_sixes<'a, C, V: Visitor<C>>(
+    by: V,
+    cells: &mut [C],
+    here: Here<'a>,
+    ops: &[HeldOp],
+) -> Option<(usize, Here<'a>)> {
+    let run = sixes_of(ops);
+    if run == 1 {
+        return None;
+    }
+    if let Some(next) = by.few_sixes(cells, here, run as u64) {
+        return Some((run, next));
+    }
+    if run <= 4 {
+        return None;
+    }
+    let next = by.sixes(cells, here, run as u64)?;
+    if !next.bits.has(FIELDS) {
+        return None;
+    }
+    Some((run, next))
 }
 
 /// Walks over the fields of single operands.
@@ -171,36 +249,30 @@ fn walk_singles<'a, C, V: Visitor<C>>(
     by: V,
     cells: &mut [C],
     first: Here<'a>,
-    ops: &[Op],
+    ops: &[HeldOp],
 ) -> Option<Here<'a>> {
     let mut at = first.at;
     let mut bits = first.bits;
     let mut rest = ops;
     while let [op, others @ ..] = rest {
         if by.joins() {
-            if let Op::Vbr(6) = op {
-                let run = sixes_of(rest);
-                if run > 1 {
-                    if let Some(next) = by.few_sixes(cells, Here { at, bits }, run as u64) {
-                        at = next.at;
-                        bits = next.bits;
-                        rest = &rest[run..];
-                        continue;
-                    }
-                    if run > 4 {
-                        let next = by.sixes(cells, Here { at, bits }, run as u64)?;
-                        if !next.bits.has(FIELDS) {
-                            return None;
-                        }
-                        at = next.at;
-                        bits = next.bits;
-                        rest = &rest[run..];
-                        continue;
-                    }
+            if let HeldOp::Vbr(6) = op {
+                if let Some((run, next)) = join_sixes(by, cells, Here { at, bits }, rest) {
+                    at = next.at;
+                    bits = next.bits;
+                    rest = &rest[run..];
+                    continue;
                 }
             }
         }
-        let (value, after) = value_of(bits, *op, FIELDS)?;
+        let (value, after) = match *op {
+            HeldOp::More(_) => {
+                rest = others;
+                continue;
+            }
+            HeldOp::Great(_) => (great_value(rest), bits),
+            op => value_of(bits, op, FIELDS)?,
+        };
         at = by.value(cells, at, value)?;
         bits = after;
         rest = others;
@@ -208,70 +280,68 @@ fn walk_singles<'a, C, V: Visitor<C>>(
     Some(Here { at, bits })
 }
 
+/// The bits behind the fields of single operands.
+#[inline(always)]
+fn skip_singles<'a>(first: PlacedBits<'a>, ops: &[HeldOp]) -> Option<PlacedBits<'a>> {
+    let mut bits = first;
+    for op in ops {
+        match *op {
+            HeldOp::Literal(_) | HeldOp::Great(_) | HeldOp::More(_) => {}
+            op => {
+                let (_, after) = value_of(bits, op, FIELDS)?;
+                bits = after;
+            }
+        }
+    }
+    Some(bits)
+}
+
 /// Walks over the elements of an array.
 #[inline(always)]
-pub(crate) fn walk_elements<'a, C, V: Visitor<C>>(
+fn walk_elements<'a, C, V: Visitor<C>>(
     by: V,
     cells: &mut [C],
     here: Here<'a>,
-    element: Op,
+    element: HeldOp,
     count: u64,
 ) -> Option<Here<'a>> {
-    if let Op::Vbr(6) = element {
+    if let HeldOp::Vbr(6) = element {
         return by.sixes(cells, here, count);
     }
     by.fields(cells, here, element, count)
 }
 
-/// The record whose fields began at a bit.
-#[inline(always)]
-fn walked(here: Here<'_>, first: u64, code: u64, count: u64) -> Option<Walked> {
-    Some(Walked {
-        at: here.at,
-        len: here.bits.position() - first,
-        code,
-        count,
-    })
-}
-
 /// Walks over a record that is not abbreviated, after its id.
 #[inline(always)]
-pub fn walk_plain<C, V: Visitor<C>>(
-    by: V,
-    cells: &mut [C],
-    at: u64,
-    fields: PlacedBits<'_>,
-    room: u64,
-) -> Option<Walked> {
+fn walk_plain<C, V: Visitor<C>>(by: V, cells: &mut [C], next: Coming<'_>) -> Option<Walked> {
+    let fields = next.fields();
     let (code, behind) = fields.number(6)?;
     let (count, bits) = behind.number(6)?;
-    if count > room || !by.fits(cells, at, count) {
+    if count > next.room || !by.fits(cells, next.at, count) {
         return None;
     }
-    let at = by.front(cells, at, code, count);
+    let at = by.front(cells, next.at, code, count);
     let here = by.sixes(cells, Here { at, bits }, count)?;
-    walked(here, fields.position(), code, count)
+    Walked::over(fields, here, code, count)
 }
 
-/// Walks over a record of single operands, after its code.
+/// Walks over a record of single operands, behind its code.
 #[inline(always)]
 fn walk_behind_code<C, V: Visitor<C>>(
     by: V,
     cells: &mut [C],
-    here: Here<'_>,
-    first: u64,
-    code: u64,
-    singles: &[Op],
-    room: u64,
+    next: Coming<'_>,
+    definition: Definition<'_>,
+    coded: Coded<'_>,
 ) -> Option<Walked> {
-    let count = singles.len() as u64;
-    if count > room {
+    let Coded { code, bits } = coded;
+    let count = u64::from(definition.head.singles);
+    if count > next.room {
         return None;
     }
-    let at = by.front(cells, here.at, code, count);
-    let bits = here.bits;
-    let here = walk_singles(by, cells, Here { at, bits }, singles)?;
-    walked(here, first, code, count)
+    let at = by.front(cells, next.at, code, count);
+    let here = walk_singles(by, cells, Here { at, bits }, &definition.ops[1..])?;
+    Walked::over(next.fields(), here, code, count)
 }
 
 /// Walks over a record with an array.
@@ -279,87 +349,84 @@ fn walk_behind_code<C, V: Visitor<C>>(
 fn walk_list<C, V: Visitor<C>>(
     by: V,
     cells: &mut [C],
-    at: u64,
-    fields: PlacedBits<'_>,
-    ops: &[Op],
-    room: u64,
+    next: Coming<'_>,
+    definition: Definition<'_>,
 ) -> Option<Walked> {
-    let (code, bits) = value_of(fields, ops[0], FIELDS)?;
+    let ops = definition.ops;
+    let Coded { code, bits } = code_of(next.fields(), ops)?;
     let singles = &ops[1..ops.len() - 2];
-    let behind = if by.has_front() {
-        walk_singles(Counting, &mut [0], Here { at, bits }, singles)?
+    let mut here = Here { at: next.at, bits };
+    if by.has_front() {
+        here.bits = skip_singles(bits, singles)?;
     } else {
-        walk_singles(by, cells, Here { at, bits }, singles)?
-    };
-    let (number, elements) = behind.bits.number(6)?;
-    let count = number.saturating_add(singles.len() as u64);
-    if count > room || !by.fits(cells, behind.at, count) {
+        here = walk_singles(by, cells, here, singles)?;
+    }
+    let (number, elements) = here.bits.number(6)?;
+    let count = number.saturating_add(u64::from(definition.head.singles));
+    if count > next.room || !by.fits(cells, here.at, count) {
         return None;
     }
-    let mut at = behind.at;
+    let mut at = here.at;
     if by.has_front() {
         at = by.front(cells, at, code, count);
         at = walk_singles(by, cells, Here { at, bits }, singles)?.at;
     }
     let bits = elements;
     let here = walk_elements(by, cells, Here { at, bits }, ops[ops.len() - 1], number)?;
-    walked(here, fields.position(), code, count)
+    Walked::over(next.fields(), here, code, count)
 }
 
-/// Walks over a record whose code is a field, or that has an array. Its fields begin at a bit of bytes, the first of which is at
-/// `start`.
+/// Walks over a record whose code is no literal below 65,536, or that has an array.
 #[inline(never)]
 fn walk_other<C, V: Visitor<C>>(
     by: V,
     cells: &mut [C],
-    at: u64,
-    from: &[u8],
-    start: u64,
-    place: u64,
-    abbrev: &Abbrev,
-    room: u64,
+    next: Coming<'_>,
+    definition: Definition<'_>,
 ) -> Option<Walked> {
-    let fields = PlacedBits::of(from, start, place);
-    let ops = abbrev.ops();
-    match abbrev.layout() {
-        Layout::List => walk_list(by, cells, at, fields, ops, room),
+    match definition.head.layout {
+        Layout::List => walk_list(by, cells, next, definition),
         Layout::Coded => {
-            let (code, bits) = value_of(fields, ops[0], FIELDS)?;
-            let here = Here { at, bits };
-            walk_behind_code(by, cells, here, fields.position(), code, &ops[1..], room)
+            let coded = code_of(next.fields(), definition.ops)?;
+            walk_behind_code(by, cells, next, definition, coded)
         }
-        Layout::Singles | Layout::Odd => None,
+        Layout::Singles | Layout::Odd | Layout::Unlawful => None,
     }
 }
 
-/// Walks over a record after its id, by its definition, if that is not odd. `None` walks over nothing: then the record is read one value
-/// after another, and the cells from the place on say nothing.
+/// Walks over a record by its definition, if that is not odd. `None` walks over nothing: then the record is read one value after another,
+/// and the cells from the place on say nothing.
 #[inline(always)]
-fn walk<C, V: Visitor<C>>(
+pub fn walk<C, V: Visitor<C>>(
     by: V,
     cells: &mut [C],
-    at: u64,
-    fields: PlacedBits<'_>,
-    abbrev: &Abbrev,
-    room: u64,
+    next: Coming<'_>,
+    id: u64,
+    definitions: &InForce<'_>,
 ) -> Option<Walked> {
-    if abbrev.layout() == Layout::Singles {
-        let ops = abbrev.ops();
-        let Op::Literal(code) = ops[0] else {
+    let head = definitions.head(id)?;
+    let ops = definitions.ops(id, head);
+    let definition = Definition { ops, head: *head };
+    if head.layout == Layout::Singles {
+        let HeldOp::Literal(code) = ops[0] else {
             return None;
         };
-        let here = Here { at, bits: fields };
-        return walk_behind_code(by, cells, here, fields.position(), code, &ops[1..], room);
+        let coded = Coded {
+            code: u64::from(code),
+            bits: next.fields(),
+        };
+        return walk_behind_code(by, cells, next, definition, coded);
     }
-    let (from, start, place) = fields.parts();
-    walk_other(by, cells, at, from, start, place, abbrev, room)
+    walk_other(by, cells, next, definition)
 }
 
 /// A visitor that only counts.
 #[derive(Clone, Copy)]
-pub struct Counting;
+pub struct Counting<'a> {
+    pub definitions: &'a InForce<'a>,
+}
 
-impl Visitor<u8> for Counting {
+impl<'d> Visitor<u8> for Counting<'d> {
     #[inline(always)]
     fn is_split(self) -> bool {
         true
@@ -382,7 +449,13 @@ impl Visitor<u8> for Counting {
     }
 
     #[inline(always)]
-    fn fields<'a>(self, _cells: &mut [u8], here: Here<'a>, op: Op, count: u64) -> Option<Here<'a>> {
+    fn fields<'a>(
+        self,
+        _cells: &mut [u8],
+        here: Here<'a>,
+        op: HeldOp,
+        count: u64,
+    ) -> Option<Here<'a>> {
         let (some, bits) = skip_some(here.bits, count, op);
         if some < count {
             return None;
@@ -391,56 +464,37 @@ impl Visitor<u8> for Counting {
     }
 
     #[inline(always)]
-    fn plain(self, _cells: &mut [u8], at: u64, next: Coming<'_>) -> Option<Walked> {
-        Walked::of(pass_plain(next.bits.load().after(next.width)), at, next.room)
+    fn plain(self, _cells: &mut [u8], next: Coming<'_>) -> Option<Walked> {
+        Walked::of(pass_plain(next.bits.load().after(next.width)), next)
+    }
+
+    #[inline(always)]
+    fn abbreviated(self, cells: &mut [u8], next: Coming<'_>, id: u64) -> Option<Walked> {
+        walk(self, cells, next, id, self.definitions)
     }
 }
 
 /// The same by the plans of definitions.
 #[derive(Clone, Copy)]
-pub struct Planned;
+pub struct Planned<'a> {
+    pub plans: &'a [Plan],
+}
 
-impl Visitor<u8> for Planned {
+impl<'d> Visitor<u8> for Planned<'d> {
     #[inline(always)]
     fn is_split(self) -> bool {
         true
     }
 
     #[inline(always)]
-    fn fits(self, _cells: &[u8], _at: u64, _count: u64) -> bool {
-        false
+    fn plain(self, _cells: &mut [u8], next: Coming<'_>) -> Option<Walked> {
+        Walked::of(pass_plain(next.bits.load().after(next.width)), next)
     }
 
     #[inline(always)]
-    fn value(self, _cells: &mut [u8], _at: u64, _value: u64) -> Option<u64> {
-        None
-    }
-
-    #[inline(always)]
-    fn sixes<'a>(self, _cells: &mut [u8], _here: Here<'a>, _count: u64) -> Option<Here<'a>> {
-        None
-    }
-
-    #[inline(always)]
-    fn fields<'a>(self, _: &mut [u8], _here: Here<'a>, _op: Op, _count: u64) -> Option<Here<'a>> {
-        None
-    }
-
-    #[inline(always)]
-    fn plain(self, cells: &mut [u8], at: u64, next: Coming<'_>) -> Option<Walked> {
-        Counting.plain(cells, at, next)
-    }
-
-    #[inline(always)]
-    fn abbreviated(
-        self,
-        _cells: &mut [u8],
-        at: u64,
-        next: Coming<'_>,
-        abbrev: &Abbrev,
-    ) -> Option<Walked> {
-        let fields = next.bits.load().after(next.width);
-        Walked::of(abbrev.plan().pass(fields, next.room), at, next.room)
+    fn abbreviated(self, _cells: &mut [u8], next: Coming<'_>, id: u64) -> Option<Walked> {
+        let plan = self.plans.get((id - 4) as usize)?;
+        Walked::of(plan.pass(next.bits.load().after(next.width), next.room), next)
     }
 }
 
@@ -449,18 +503,18 @@ pub const FEW: usize = 64;
 
 /// A visitor that takes the values of a record into a list of 64.
 #[derive(Clone, Copy)]
-pub struct Listing;
-
-impl Listing {
-    /// The same record, with the first place as the next one.
-    #[inline(always)]
-    fn again(record: Option<Walked>) -> Option<Walked> {
-        let record = record?;
-        Some(Walked { at: 0, ..record })
-    }
+pub struct Listing<'a> {
+    pub definitions: &'a InForce<'a>,
 }
 
-impl Visitor<u64> for Listing {
+/// The same record, with the first place as the next one.
+#[inline(always)]
+fn again(record: Option<Walked>) -> Option<Walked> {
+    let record = record?;
+    Some(Walked { at: 0, ..record })
+}
+
+impl<'d> Visitor<u64> for Listing<'d> {
     #[inline(always)]
     fn fits(self, _cells: &[u64], _at: u64, count: u64) -> bool {
         count <= FEW as u64
@@ -482,26 +536,26 @@ impl Visitor<u64> for Listing {
     }
 
     #[inline(always)]
-    fn fields<'a>(self, cells: &mut [u64], here: Here<'a>, op: Op, count: u64) -> Option<Here<'a>> {
+    fn fields<'a>(
+        self,
+        cells: &mut [u64],
+        here: Here<'a>,
+        op: HeldOp,
+        count: u64,
+    ) -> Option<Here<'a>> {
         let at = here.at + count;
         let bits = list_fields(&mut cells[here.at as usize..at as usize], here.bits, op)?;
         Some(Here { at, bits })
     }
 
     #[inline(always)]
-    fn plain(self, cells: &mut [u64], _at: u64, next: Coming<'_>) -> Option<Walked> {
-        Listing::again(walk_plain(self, cells, 0, next.fields(), next.room))
+    fn plain(self, cells: &mut [u64], next: Coming<'_>) -> Option<Walked> {
+        again(walk_plain(self, cells, next))
     }
 
     #[inline(always)]
-    fn abbreviated(
-        self,
-        cells: &mut [u64],
-        _at: u64,
-        next: Coming<'_>,
-        abbrev: &Abbrev,
-    ) -> Option<Walked> {
-        Listing::again(walk(self, cells, 0, next.fields(), abbrev, next.room))
+    fn abbreviated(self, cells: &mut [u64], next: Coming<'_>, id: u64) -> Option<Walked> {
+        again(walk(self, cells, next, id, self.definitions))
     }
 
     #[inline(always)]
@@ -515,7 +569,7 @@ impl Visitor<u64> for Listing {
 fn list_fields<'a>(
     places: &mut [u64],
     fields: PlacedBits<'a>,
-    element: Op,
+    element: HeldOp,
 ) -> Option<PlacedBits<'a>> {
     let mut bits = fields;
     for place in 0..places.len() {

@@ -2,7 +2,7 @@
 use crate::folding::fold;
 use crate::gatherer::Gatherer;
 use crate::passing::{PassedRun, Uncounted, pass_records};
-use bit_abbrev::{Coming, Abbrev, InForce};
+use bit_abbrev::{Coming, Entered, HeldOps};
 use bit_fields::{Fault, KeptSource, Limits, Source, ValueCount};
 use std::alloc::{AllocError, Global};
 
@@ -25,13 +25,8 @@ impl Gatherer for Nothing {
         Ok(())
     }
 
-    #[inline(always)]
-    fn defined(&mut self, _first: u64, _after: u64) -> Result<bool, AllocError> {
-        Ok(true)
-    }
-
     #[inline]
-    fn define(&mut self, _abbrev: &Abbrev, _first: u64, _after: u64) -> Result<(), AllocError> {
+    fn define(&mut self, _ops: HeldOps<'_>, _first: u64, _after: u64) -> Result<(), AllocError> {
         Ok(())
     }
 
@@ -53,12 +48,7 @@ impl Gatherer for Nothing {
     }
 
     #[inline(always)]
-    fn is_planned(&self) -> bool {
-        true
-    }
-
-    #[inline(always)]
-    fn pass(&mut self, next: Coming<'_>, definitions: &InForce) -> Result<PassedRun, AllocError> {
+    fn pass(&mut self, next: Coming<'_>, definitions: Entered<'_>) -> Result<PassedRun, AllocError> {
         pass_records(next, definitions, &mut Uncounted)
     }
 

@@ -7,7 +7,7 @@ use crate::gatherer::Gatherer;
 use crate::machine::{Machine, Step};
 use crate::passing::{CountedRecord, RunCounter, pass_records};
 use crate::with_first::WithFirst;
-use bit_abbrev::Coming;
+use bit_abbrev::{Abbrev, Coming, Entered};
 use bit_fields::{
     BitReader, Fault, Head, Limits, PackedValues, SliceSource, Source, ValueCount, ValueKeeper, ValueTaker,
 };
@@ -21,14 +21,15 @@ use std::marker::Model;
 #[derive(Drop)]
 pub struct EventFinder<S: Source, V: ValueKeeper> {
     alloc: Global,
-    limits: Limits,
     head: Head,
     reader: BitReader<S>,
     machine: Machine,
     /// The values of the last record.
     values: WithFirst<V>,
-    /// The last event.
+    /// The last event,
     found: Option<Step>,
+    /// and its definition, if it is one.
+    made: Option<Abbrev>,
     /// The bit after the last event, or after the head.
     reached: u64,
     /// The whole input is accepted.
@@ -58,12 +59,12 @@ impl<S: Source, V: ValueKeeper> EventFinder<S, V> {
         let reached = reader.position();
         Ok(EventFinder {
             alloc,
-            limits,
             head,
             reader,
-            machine: Machine::new(alloc, false),
+            machine: Machine::new(alloc, limits),
             values: WithFirst::new(V::empty(alloc)),
             found: None,
+            made: None,
             reached,
             over: false,
         })
@@ -102,16 +103,30 @@ impl<S: Source, V: ValueKeeper> EventFinder<S, V> {
         if !self.reader.is_live() {
             return Err(Fault::Failed);
         }
-        self.found = self.machine.next_lent(
-            self.alloc,
-            &mut self.reader,
-            &self.limits,
-            &mut self.values,
-        )?;
+        self.found = self.machine.next(&mut self.reader, &mut self.values)?;
+        if let Some(Step::Define { .. }) = self.found {
+            self.make()?;
+        }
         // Positions are below 2^64 and rise, so the events end.
         self.reached = self.reader.position();
         self.over = self.found.is_none();
         Ok(())
+    }
+
+    /// Makes the abbreviation of the definition that was found.
+    #[cold]
+    #[inline(never)]
+    fn make(&mut self) -> Result<(), Fault> {
+        let Some(ops) = self.machine.newest() else {
+            unreachable!();
+        };
+        match Abbrev::of_held(self.alloc, ops) {
+            Ok(made) => {
+                self.made = Some(made);
+                Ok(())
+            }
+            Err(_) => Err(self.reader.fail(Fault::Memory)),
+        }
     }
 
     /// Gathers all remaining events, as `fold` does, with values of their own.
@@ -127,13 +142,7 @@ impl<S: Source, V: ValueKeeper> EventFinder<S, V> {
             return Err(Fault::Failed);
         }
         self.found = None;
-        if let Err(fault) = gather_rest(
-            self.alloc,
-            &mut self.reader,
-            &mut self.machine,
-            &self.limits,
-            gatherer,
-        ) {
+        if let Err(fault) = gather_rest(&mut self.reader, &mut self.machine, gatherer) {
             self.machine.drop_blocks();
             return Err(fault);
         }
@@ -158,7 +167,7 @@ impl<S: Source, V: ValueKeeper> EventFinder<S, V> {
     pub fn record<T: ValueTaker>(&mut self, values: &mut T) -> Option<RecordHead> {
         let bits = self.reader.bits();
         let first = bits.position();
-        let read = self.machine.plain_record(bits, &self.limits, values)?;
+        let read = self.machine.plain_record(bits, values)?;
         self.reader.catch_up(read.after - first);
         self.forget(read.after);
         Some(read)
@@ -169,21 +178,24 @@ impl<S: Source, V: ValueKeeper> EventFinder<S, V> {
         let Some(frame) = self.machine.frames.last() else {
             return 0;
         };
-        if frame.info.is_some() {
+        if !frame.is_plain() {
             return 0;
         }
+        let room = self.machine.room();
         let next = Coming {
+            at: 0,
             bits: self.reader.bits(),
             width: u32::from(frame.head.width),
-            room: self.machine.room(&self.limits),
+            room,
         };
         let first = next.bits.position();
         let mut passing = Passing { left: most };
-        let Ok(run) = pass_records(next, &frame.definitions, &mut passing) else {
+        let definitions = Entered::of(&mut self.machine.definitions, frame.marks);
+        let Ok(run) = pass_records(next, definitions, &mut passing) else {
             return 0;
         };
         if passing.left < most {
-            self.machine.used += self.machine.room(&self.limits) - run.room;
+            self.machine.used += room - run.room;
             self.reader.catch_up(run.after - first);
             self.forget(run.after);
         }
@@ -193,8 +205,6 @@ impl<S: Source, V: ValueKeeper> EventFinder<S, V> {
     /// Passes over the next events, at most `most`, and returns how many they are: fewer only if the whole input is accepted. It fails
     /// as `next` does.
     pub fn pass(&mut self, most: u64) -> Result<u64, Fault> {
-        // Definitions that are found from here on get plans.
-        self.machine.planned = true;
         let mut left = most;
         while left > 0 {
             left -= self.pass_records(left);
@@ -224,7 +234,7 @@ impl<S: Source, V: ValueKeeper> EventFinder<S, V> {
     {
         match &self.found {
             None => None,
-            Some(found) => found.event(&self.machine, values),
+            Some(found) => found.event(self.made.as_ref(), values),
         }
     }
 

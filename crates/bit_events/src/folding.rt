@@ -17,25 +17,6 @@ pub struct Folded<G> {
     pub after: u64,
 }
 
-/// Gives the gatherer the newest definition, with its operands only if it wants them.
-fn hand_definition<G: Gatherer>(
-    gatherer: &mut G,
-    machine: &Machine,
-    first: u64,
-    after: u64,
-) -> Result<(), AllocError>
-{
-    let taken = gatherer.defined(first, after)?;
-    if taken {
-        return Ok(());
-    }
-    let made = machine.newest_made()?;
-    match machine.newest(&made) {
-        Some(abbrev) => gatherer.define(abbrev, first, after),
-        None => unreachable!(),
-    }
-}
-
 /// Gives the gatherer the event of a step, and the values of a record.
 #[inline(always)]
 fn hand_on<G: Gatherer>(
@@ -52,7 +33,10 @@ fn hand_on<G: Gatherer>(
             first,
             body,
         } => gatherer.enter(id, width, first, body),
-        Step::Define { first, after } => hand_definition(gatherer, machine, first, after),
+        Step::Define { first, after } => match machine.newest() {
+            Some(ops) => gatherer.define(ops, first, after),
+            None => unreachable!(),
+        },
         Step::Record(head) => gatherer.record(
             head.abbrev,
             head.code,
@@ -67,18 +51,16 @@ fn hand_on<G: Gatherer>(
 /// Gathers the events of which all bits are there, and returns the bit after the last one. Readers of all sources share it.
 #[inline(never)]
 fn gather_placed<G: Gatherer>(
-    alloc: Global,
     from: PlacedBits<'_>,
     machine: &mut Machine,
-    limits: &Limits,
     gatherer: &mut G,
     values: &mut WithFirst<G::Values>,
 ) -> Result<u64, AllocError> {
     let mut bits = from;
     let mut ended = false;
     loop {
-        bits = gather_records(bits, ended, machine, limits, gatherer, values)?;
-        let Some(step) = machine.placed_step(alloc, bits, limits)? else {
+        bits = gather_records(bits, ended, machine, gatherer, values)?;
+        let Some(step) = machine.placed_step(bits)? else {
             return Ok(bits.position());
         };
         bits = bits.at(step.after());
@@ -89,16 +71,14 @@ fn gather_placed<G: Gatherer>(
 
 /// Gathers the events of which all bits are there, possibly none.
 fn gather_buffered<S: Source, G: Gatherer>(
-    alloc: Global,
     reader: &mut BitReader<S>,
     machine: &mut Machine,
-    limits: &Limits,
     gatherer: &mut G,
     values: &mut WithFirst<G::Values>,
 ) -> Result<(), Fault> {
     let bits = reader.bits();
     let first = bits.position();
-    match gather_placed(alloc, bits, machine, limits, gatherer, values) {
+    match gather_placed(bits, machine, gatherer, values) {
         Ok(after) => {
             reader.catch_up(after - first);
             Ok(())
@@ -109,15 +89,13 @@ fn gather_buffered<S: Source, G: Gatherer>(
 
 /// Gathers the next event, and returns whether there was one.
 fn gather_next<S: Source, G: Gatherer>(
-    alloc: Global,
     reader: &mut BitReader<S>,
     machine: &mut Machine,
-    limits: &Limits,
     gatherer: &mut G,
     values: &mut WithFirst<G::Values>,
 ) -> Result<bool, Fault>
 {
-    let Some(step) = machine.next_exact(alloc, reader, limits, values)? else {
+    let Some(step) = machine.next_exact(reader, values)? else {
         return Ok(false);
     };
     match hand_on(gatherer, machine, step, &mut values.taker) {
@@ -128,17 +106,15 @@ fn gather_next<S: Source, G: Gatherer>(
 
 /// Gathers all remaining events: those that are there in place, and the others by the reader, which asks its source.
 pub(crate) fn gather_rest<S: Source, G: Gatherer>(
-    alloc: Global,
     reader: &mut BitReader<S>,
     machine: &mut Machine,
-    limits: &Limits,
     gatherer: &mut G,
 ) -> Result<(), Fault>
 {
     let mut values = WithFirst::new(gatherer.values());
     'events: loop {
-        gather_buffered(alloc, reader, machine, limits, gatherer, &mut values)?;
-        if !gather_next(alloc, reader, machine, limits, gatherer, &mut values)? {
+        gather_buffered(reader, machine, gatherer, &mut values)?;
+        if !gather_next(reader, machine, gatherer, &mut values)? {
             return Ok(());
         }
     }
@@ -164,9 +140,8 @@ pub fn fold<S: Source, G: Gatherer + Drop>(
     };
     let mut reader = reader;
     let mut gatherer = gatherer;
-    let planned = gatherer.is_planned();
-    let mut machine = Machine::new(alloc, planned);
-    let done = gather_rest(alloc, &mut reader, &mut machine, &limits, &mut gatherer);
+    let mut machine = Machine::new(alloc, limits);
+    let done = gather_rest(&mut reader, &mut machine, &mut gatherer);
     let after = reader.position();
     let source = reader.into_source();
     match done {

@@ -7,7 +7,7 @@ ghost use Rattle.bit_events.specs.MachineView.{TookSome};
 ghost use Rattle.bit_events.specs.Passing.{PassesRun};
 
 use crate::passing::PassedRun;
-use bit_abbrev::{Abbrev, Coming, InForce};
+use bit_abbrev::{Coming, Entered, HeldOps};
 use bit_fields::ValueTaker;
 use std::alloc::AllocError;
 
@@ -29,16 +29,8 @@ pub trait Gatherer {
     /// Takes a block's beginning: its id, the width of the ids in it, its first bit, and the first bit of its body.
     fn enter(&mut self, id: u32, width: u8, first: u64, body: u64) -> Result<(), AllocError>;
 
-    /// Takes a definition as `define` does, without its operands, which are then held in fewer bytes. If it returns `false`, nothing
-    /// changed, and `define` is called for it.
-    #[inline(always)]
-    fn defined(&mut self, _first: u64, _after: u64) -> Result<bool, AllocError>
-    {
-        Ok(false)
-    }
-
-    /// Takes a definition in the innermost block, its first bit and the bit after it.
-    fn define(&mut self, abbrev: &Abbrev, first: u64, after: u64) -> Result<(), AllocError>;
+    /// Takes a definition in the innermost block: its operands, its first bit and the bit after it.
+    fn define(&mut self, ops: HeldOps<'_>, first: u64, after: u64) -> Result<(), AllocError>;
 
     /// Takes a record in the innermost block: its abbreviation id, its code, the value sink with its values, its first bit and the
     /// bit after it. The values may be moved out.
@@ -57,15 +49,9 @@ pub trait Gatherer {
         false
     }
 
-    /// Whether `pass` goes by plans of definitions, so that they are made.
-    #[inline(always)]
-    fn is_planned(&self) -> bool {
-        false
-    }
-
     /// Gathers records of the innermost block, which come next: as many as it likes.
     #[inline(always)]
-    fn pass(&mut self, next: Coming<'_>, _definitions: &InForce) -> Result<PassedRun, AllocError> {
+    fn pass(&mut self, next: Coming<'_>, _definitions: Entered<'_>) -> Result<PassedRun, AllocError> {
         Ok(PassedRun::none(next))
     }
 

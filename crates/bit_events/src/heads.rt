@@ -1,19 +1,6 @@
 
 use crate::head::BlockHead;
 use bit_fields::{BitReader, Fault, PlacedBits, Reason, Source};
-use std::alloc::AllocError;
-
-/// The value that was made; if an allocation for it failed, the reader fails.
-pub(crate) fn or_memory_fault<S: Source, T>(
-    reader: &mut BitReader<S>,
-    got: Result<T, AllocError>,
-) -> Result<T, Fault>
-{
-    match got {
-        Ok(value) => Ok(value),
-        Err(_) => Err(reader.fail(Fault::Memory)),
-    }
-}
 
 /// Reads the id of a block.
 fn block_id<S: Source>(reader: &mut BitReader<S>) -> Result<u32, Fault>
@@ -57,8 +44,7 @@ pub(crate) fn block_head<S: Source>(reader: &mut BitReader<S>) -> Result<BlockHe
     })
 }
 
-/// Reads what comes between a block's abbreviation id and its items. `None`
-/// leaves it to that reader: also an id or a width of more than one chunk, and a BLOCKINFO block, which are rare.
+/// The same in buffered bits. `None` leaves it to the reader: also an id or a width of more than one chunk, which are rare.
 #[inline(always)]
 pub(crate) fn placed_head(bits: PlacedBits<'_>) -> Option<BlockHead> {
     let first = bits.position();
@@ -68,7 +54,7 @@ pub(crate) fn placed_head(bits: PlacedBits<'_>) -> Option<BlockHead> {
     let word = bits.front(to_length as u32);
     let id = word & 0xff;
     let width = word >> 8;
-    if id >= 1 << 7 || width >= 1 << 3 || id == 0 || width == 0 {
+    if id >= 1 << 7 || width >= 1 << 3 || width == 0 {
         return None;
     }
     let words = bits.after(to_length).fixed(32);

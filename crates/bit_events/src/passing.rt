@@ -1,7 +1,7 @@
 //! Runs of records that are walked over in buffered bits.
 
 use bit_abbrev::{
-    Coming, Counting, Definitions, FEW, InForce, Listing, MARGIN, Planned, Visitor, Walked,
+    Coming, Counting, Entered, FEW, Listing, MARGIN, Planned, Visitor, Walked,
 };
 use bit_fields::PlacedBits;
 use std::alloc::AllocError;
@@ -21,7 +21,7 @@ impl PassedRun {
     #[inline(always)]
     pub fn none(next: Coming<'_>) -> PassedRun {
         PassedRun {
-            at: 0,
+            at: next.at,
             after: next.bits.position(),
             room: next.room,
             is_over: false,
@@ -58,66 +58,58 @@ impl RunCounter for Uncounted {
 
 /// Hands on a record that was walked over. `None` if it is not taken.
 #[inline(always)]
-fn hand_on<'a, C, V: Visitor<C>, R: RunCounter>(
-    by: V,
-    cells: &[C],
+fn hand_on<'a, R: RunCounter>(
     next: Coming<'a>,
     id: u64,
     walked: Walked,
+    values: &[u64],
     counter: &mut R,
-) -> Result<Option<(Walked, PlacedBits<'a>)>, AllocError> {
-    let after = next.bits.after(u64::from(next.width) + walked.len);
+) -> Result<Option<Coming<'a>>, AllocError> {
+    let Coming { bits, width, room, .. } = next;
+    let Walked { at, len, code, count } = walked;
+    let after = bits.after(u64::from(width) + len);
     let record = CountedRecord {
         id,
-        code: walked.code,
-        count: walked.count,
-        first: next.bits.position(),
+        code,
+        count,
+        first: bits.position(),
         after: after.position(),
     };
-    if !counter.count(record, by.values(cells, walked.count))? {
+    if !counter.count(record, values)? {
         return Ok(None);
     }
-    Ok(Some((walked, after)))
+    Ok(Some(Coming {
+        at,
+        bits: after,
+        width,
+        room: room - count,
+    }))
 }
 
-/// Walks over a record with this abbreviation id.
-#[inline(always)]
-fn walk_one<C, V: Visitor<C>>(
-    by: V,
-    cells: &mut [C],
-    at: u64,
-    next: Coming<'_>,
-    id: u64,
-    definitions: &Definitions<'_>,
-) -> Option<Walked> {
-    if id == 3 {
-        return by.plain(cells, at, next);
-    }
-    let abbrev = definitions.get((id - 4) as usize)?;
-    by.abbreviated(cells, at, next, abbrev)
-}
-
-/// Walks over a record with this abbreviation id and hands it on. `None` if it is not walked over.
+/// Walks over a record with this abbreviation id and hands it on: what comes behind it. `None` if it is not walked over.
 #[inline(always)]
 fn walk_next<'a, C, V: Visitor<C>, R: RunCounter>(
     by: V,
     cells: &mut [C],
-    at: u64,
     next: Coming<'a>,
     id: u64,
-    definitions: &Definitions<'_>,
     counter: &mut R,
-) -> Result<Option<(Walked, PlacedBits<'a>)>, AllocError> {
+) -> Result<Option<Coming<'a>>, AllocError> {
     if by.is_split() && id == 3 {
-        let Some(walked) = by.plain(cells, at, next) else {
+        let Some(walked) = by.plain(cells, next) else {
             return Ok(None);
         };
-        return hand_on(by, cells, next, id, walked, counter);
+        return hand_on(next, id, walked, by.values(cells, walked.count), counter);
     }
-    let Some(walked) = walk_one(by, cells, at, next, id, definitions) else {
+    let walked = if id == 3 {
+        by.plain(cells, next)
+    } else {
+        by.abbreviated(cells, next, id)
+    };
+    let Some(walked) = walked else {
         return Ok(None);
     };
-    hand_on(by, cells, next, id, walked, counter)
+    hand_on(next, id, walked, by.values(cells, walked.count), counter)
 }
 
 /// Walks over records, as long as they are not odd, there is room for what they store, and a margin of bits is there.
@@ -125,32 +117,33 @@ fn walk_next<'a, C, V: Visitor<C>, R: RunCounter>(
 pub fn walk_run<C, V: Visitor<C>, R: RunCounter>(
     by: V,
     cells: &mut [C],
-    first: u64,
-    from: PlacedBits<'_>,
-    width: u32,
-    most: u64,
-    definitions: &Definitions<'_>,
+    first: Coming<'_>,
     counter: &mut R,
 ) -> Result<PassedRun, AllocError> {
-    let mut at = first;
-    let mut bits = from;
-    let mut room = most;
+    let width = first.width;
+    let mut at = first.at;
+    let mut bits = first.bits;
+    let mut room = first.room;
     let mut is_over = false;
     while bits.has(MARGIN) && !by.is_full(at) {
-        let next = Coming { bits, width, room };
-        let id = bits.fixed(width);
+        let next = Coming {
+            at,
+            bits,
+            width,
+            room,
+        };
+        let id = next.id();
         if id < 3 {
             is_over = true;
             break;
         }
-        let Some((walked, after)) = walk_next(by, cells, at, next, id, definitions, counter)?
-        else {
+        let Some(behind) = walk_next(by, cells, next, id, counter)? else {
             by.take_back(cells, at);
             break;
         };
-        at = walked.at;
-        room -= walked.count;
-        bits = after;
+        at = behind.at;
+        bits = behind.bits;
+        room = behind.room;
     }
     let after = bits.position();
     Ok(PassedRun {
@@ -161,32 +154,62 @@ pub fn walk_run<C, V: Visitor<C>, R: RunCounter>(
     })
 }
 
+/// Passes over records by the plans of their definitions, which are made when they are first needed.
+#[inline(always)]
+fn pass_planned<R: RunCounter>(
+    first: Coming<'_>,
+    definitions: &mut Entered<'_>,
+    counter: &mut R,
+) -> Result<PassedRun, AllocError> {
+    let mut none = [0_u8; 1];
+    let mut next = first;
+    loop {
+        let by = Planned {
+            plans: definitions.plans(),
+        };
+        let run = walk_run(by, &mut none, next, counter)?;
+        next.bits = next.bits.at(run.after);
+        next.room = run.room;
+        if run.is_over || !next.bits.has(MARGIN) {
+            return Ok(run);
+        }
+        let id = next.id();
+        if id == 3 || !definitions.plan(id) {
+            return Ok(run);
+        }
+    }
+}
+
 /// Passes over records: first by plans of definitions, then by their operands.
 #[inline(always)]
 pub fn pass_records<R: RunCounter>(
     next: Coming<'_>,
-    definitions: &InForce,
+    definitions: Entered<'_>,
     counter: &mut R,
 ) -> Result<PassedRun, AllocError> {
-    let all = definitions.all();
-    let mut none = [0_u8; 1];
-    let Coming { bits, width, room } = next;
-    let run = walk_run(Planned, &mut none, 0, bits, width, room, &all, counter)?;
+    let mut definitions = definitions;
+    let run = pass_planned(next, &mut definitions, counter)?;
     if run.is_over {
         return Ok(run);
     }
-    let rest = bits.at(run.after);
-    walk_run(Counting, &mut none, 0, rest, width, run.room, &all, counter)
+    let mut rest = next;
+    rest.bits = next.bits.at(run.after);
+    rest.room = run.room;
+    let by = Counting {
+        definitions: &definitions.in_force(),
+    };
+    walk_run(by, &mut [0; 1], rest, counter)
 }
 
 /// Reads records of few values.
 #[inline(always)]
 pub fn list_records<R: RunCounter>(
     next: Coming<'_>,
-    definitions: &InForce,
+    definitions: Entered<'_>,
     counter: &mut R,
 ) -> Result<PassedRun, AllocError> {
-    let mut few = [0; FEW];
-    let Coming { bits, width, room } = next;
-    walk_run(Listing, &mut few, 0, bits, width, room, &definitions.all(), counter)
+    let by = Listing {
+        definitions: &definitions.in_force(),
+    };
+    walk_run(by, &mut [0; FEW], next, counter)
 }

@@ -1,43 +1,54 @@
 //! Records that lie whole in buffered bits, given to a gatherer.
 
-use crate::frame::Frame;
 use crate::gatherer::Gatherer;
 use crate::machine::Machine;
 use crate::with_first::WithFirst;
-use bit_abbrev::{Coming, Layout, MARGIN};
-use bit_fields::{Limits, PlacedBits, ValueTaker};
+use bit_abbrev::{Coming, Entered, MARGIN};
+use bit_fields::{PlacedBits, ValueTaker};
 use std::alloc::AllocError;
 
-/// Lets the gatherer walk over records of a block. Returns the bits behind them, and whether no record comes there.
+/// Lets the gatherer walk over records of the innermost block. Returns the bits behind them, and whether no record comes there.
 #[inline(always)]
 fn gather_run<'a, G: Gatherer>(
     bits: PlacedBits<'a>,
-    frame: &Frame,
-    limits: &Limits,
-    used: &mut u64,
+    machine: &mut Machine,
     gatherer: &mut G,
 ) -> Result<(PlacedBits<'a>, bool), AllocError> {
     if !bits.has(MARGIN) || !gatherer.passes() {
         return Ok((bits, false));
     }
-    let room = limits.values().saturating_sub(*used);
+    let room = machine.room();
+    let Some(frame) = machine.frames.last() else {
+        return Ok((bits, false));
+    };
     let width = u32::from(frame.head.width);
-    let run = gatherer.pass(Coming { bits, width, room }, &frame.definitions)?;
-    *used += room - run.room;
+    let definitions = Entered::of(&mut machine.definitions, frame.marks);
+    let at = 0;
+    let next = Coming {
+        at,
+        bits,
+        width,
+        room,
+    };
+    let run = gatherer.pass(next, definitions)?;
+    machine.used += room - run.room;
     Ok((bits.at(run.after), run.is_over))
 }
 
 /// Whether a record comes next that the gatherer may walk over.
-fn may_walk<G: Gatherer>(frame: &Frame, bits: PlacedBits<'_>, gatherer: &G) -> bool {
+fn may_walk<G: Gatherer>(machine: &Machine, bits: PlacedBits<'_>, gatherer: &G) -> bool {
     if !bits.has(MARGIN) || !gatherer.passes() {
         return false;
     }
+    let Some(frame) = machine.frames.last() else {
+        return false;
+    };
     let id = bits.fixed(u32::from(frame.head.width));
     if id <= 3 {
         return id == 3;
     }
-    match frame.definitions.get((id - 4) as usize) {
-        Some(abbrev) => abbrev.layout() != Layout::Odd,
+    match machine.definitions.in_force(frame.marks).head(id) {
+        Some(head) => head.is_even(),
         None => false,
     }
 }
@@ -47,24 +58,19 @@ fn may_walk<G: Gatherer>(frame: &Frame, bits: PlacedBits<'_>, gatherer: &G) -> b
 fn gather_odd<G: Gatherer>(
     from: PlacedBits<'_>,
     machine: &mut Machine,
-    limits: &Limits,
     gatherer: &mut G,
     values: &mut G::Values,
 ) -> Result<u64, AllocError> {
     let mut bits = from;
     loop {
         values.truncate(0);
-        let Some(head) = machine.plain_record(bits, limits, values) else {
+        let Some(head) = machine.plain_record(bits, values) else {
             return Ok(bits.position());
         };
         bits = bits.at(head.after);
         gatherer.record(head.abbrev, head.code, values, head.first, head.after)?;
-        let Some(frame) = machine.frames.last() else {
-            return Ok(bits.position());
-        };
-        if may_walk(frame, bits, gatherer) {
-            let used = &mut machine.used;
-            let (after, is_over) = gather_run(bits, frame, limits, used, gatherer)?;
+        if may_walk(machine, bits, gatherer) {
+            let (after, is_over) = gather_run(bits, machine, gatherer)?;
             if is_over {
                 return Ok(after.position());
             }
@@ -79,12 +85,11 @@ fn gather_odd<G: Gatherer>(
 fn gather_info<G: Gatherer>(
     from: PlacedBits<'_>,
     machine: &mut Machine,
-    limits: &Limits,
     gatherer: &mut G,
     values: &mut WithFirst<G::Values>,
 ) -> Result<u64, AllocError> {
     let mut bits = from;
-    while let Some(head) = machine.info_record(bits, limits, values) {
+    while let Some(head) = machine.info_record(bits, values) {
         bits = bits.at(head.after);
         let taker = &mut values.taker;
         gatherer.record(head.abbrev, head.code, taker, head.first, head.after)?;
@@ -99,23 +104,22 @@ pub(crate) fn gather_records<'a, G: Gatherer>(
     from: PlacedBits<'a>,
     ended: bool,
     machine: &mut Machine,
-    limits: &Limits,
     gatherer: &mut G,
     values: &mut WithFirst<G::Values>,
 ) -> Result<PlacedBits<'a>, AllocError> {
     let Some(frame) = machine.frames.last() else {
         return Ok(from);
     };
-    if frame.info.is_some() {
-        return Ok(from.at(gather_info(from, machine, limits, gatherer, values)?));
+    if !frame.is_plain() {
+        return Ok(from.at(gather_info(from, machine, gatherer, values)?));
     }
     if ended && from.has(64) && from.fixed(u32::from(frame.head.width)) < 3 {
         return Ok(from);
     }
-    let (after, is_over) = gather_run(from, frame, limits, &mut machine.used, gatherer)?;
+    let (after, is_over) = gather_run(from, machine, gatherer)?;
     if is_over {
         return Ok(after);
     }
-    let read = gather_odd(after, machine, limits, gatherer, &mut values.taker)?;
+    let read = gather_odd(after, machine, gatherer, &mut values.taker)?;
     Ok(from.at(read))
 }

@@ -1,7 +1,7 @@
 
 use crate::form_run::{SHORT, Storing};
 use crate::form_values::{FormValues, is_long};
-use bit_abbrev::{Coming, Abbrev, Definitions, InForce, Layout};
+use bit_abbrev::{Coming, Entered, HeldOps, InForce};
 use bit_events::{Gatherer, OpenBlocks, PassedRun, Uncounted, walk_run};
 use bit_fields::{BitText, Limits};
 use bit_tree::Info;
@@ -230,7 +230,7 @@ impl<'a> FormBuilder<'a> {
     fn add_run(
         &mut self,
         next: Coming<'_>,
-        definitions: &Definitions<'_>,
+        definitions: &InForce<'_>,
     ) -> Result<PassedRun, AllocError>
     {
         let mut next = next;
@@ -239,18 +239,15 @@ impl<'a> FormBuilder<'a> {
             let mut bytes = lent;
             let most = (8 * self.limits.bytes() + 7).saturating_sub(self.text.len());
             let last = most.min(8 * bytes.len() as u64 - SHORT);
-            let by = Storing { last };
-            let Coming { bits, width, room } = next;
-            let run = walk_run(by, &mut bytes, at, bits, width, room, definitions, &mut Uncounted)?;
+            let by = Storing { last, definitions };
+            next.at = at;
+            let run = walk_run(by, &mut bytes, next, &mut Uncounted)?;
             self.text.give_back(bytes, run.at)?;
             if run.at <= last {
                 return Ok(run);
             }
-            next = Coming {
-                bits: bits.at(run.after),
-                width,
-                room: run.room,
-            };
+            next.bits = next.bits.at(run.after);
+            next.room = run.room;
         }
         Ok(PassedRun::none(next))
     }
@@ -260,13 +257,13 @@ impl<'a> FormBuilder<'a> {
     fn pass_run(
         &mut self,
         next: Coming<'_>,
-        definitions: &InForce,
+        definitions: Entered<'_>,
     ) -> Result<PassedRun, AllocError>
     {
         if self.long || !self.standing.is_whole() {
             return Ok(PassedRun::none(next));
         }
-        self.add_run(next, &definitions.all())
+        self.add_run(next, &definitions.in_force())
     }
 }
 
@@ -290,12 +287,7 @@ impl<'a> Gatherer for FormBuilder<'a> {
         Ok(())
     }
 
-    #[inline(always)]
-    fn defined(&mut self, _first: u64, _after: u64) -> Result<bool, AllocError> {
-        Ok(true)
-    }
-
-    fn define(&mut self, _abbrev: &Abbrev, _first: u64, _after: u64) -> Result<(), AllocError> {
+    fn define(&mut self, _ops: HeldOps<'_>, _first: u64, _after: u64) -> Result<(), AllocError> {
         Ok(())
     }
 
@@ -320,7 +312,7 @@ impl<'a> Gatherer for FormBuilder<'a> {
     }
 
     #[inline(always)]
-    fn pass(&mut self, next: Coming<'_>, definitions: &InForce) -> Result<PassedRun, AllocError> {
+    fn pass(&mut self, next: Coming<'_>, definitions: Entered<'_>) -> Result<PassedRun, AllocError> {
         self.pass_run(next, definitions)
     }
 

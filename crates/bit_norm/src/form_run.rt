@@ -1,8 +1,7 @@
 //! Runs of records that are read from buffered bits and stored into bytes at once.
 
-use bit_abbrev::{Coming, FIELDS, Here, MOST_VALUES, Visitor, Walked, value_of};
+use bit_abbrev::{Coming, FIELDS, HeldOp, Here, InForce, MOST_VALUES, Visitor, Walked, value_of, walk};
 use bit_fields::{PlacedBits, put, put_front, put_number, put_two, take_back};
-use bit_grammar::Op;
 
 /// How many bits of room a record of at most 31 values takes at most, with the eight bytes that its last number is stored into.
 pub(crate) const SHORT: u64 = 2800;
@@ -10,11 +9,12 @@ pub(crate) const SHORT: u64 = 2800;
 /// A visitor that stores the shortest spelling of each number, as long as the place for a record is at most `last`. Its places are bits
 /// of bytes.
 #[derive(Clone, Copy)]
-pub(crate) struct Storing {
+pub(crate) struct Storing<'a> {
     pub(crate) last: u64,
+    pub(crate) definitions: &'a InForce<'a>,
 }
 
-impl Visitor<u8> for Storing {
+impl<'d> Visitor<u8> for Storing<'d> {
     #[inline(always)]
     fn has_front(self) -> bool {
         true
@@ -62,13 +62,20 @@ impl Visitor<u8> for Storing {
     }
 
     #[inline(always)]
-    fn fields<'a>(self, bytes: &mut [u8], here: Here<'a>, op: Op, count: u64) -> Option<Here<'a>> {
+    fn fields<'a>(
+        self,
+        bytes: &mut [u8],
+        here: Here<'a>,
+        op: HeldOp,
+        count: u64,
+    ) -> Option<Here<'a>> {
         let (at, bits) = store_pairs(bytes, here.at, here.bits, op, count)?;
         Some(Here { at, bits })
     }
 
     #[inline(always)]
-    fn plain(self, bytes: &mut [u8], at: u64, next: Coming<'_>) -> Option<Walked> {
+    fn plain(self, bytes: &mut [u8], next: Coming<'_>) -> Option<Walked> {
+        let at = next.at;
         let fields = next.fields();
         let count = fields.plain_count()?;
         if count > next.room || count > MOST_VALUES {
@@ -97,6 +104,11 @@ impl Visitor<u8> for Storing {
     }
 
     #[inline(always)]
+    fn abbreviated(self, bytes: &mut [u8], next: Coming<'_>, id: u64) -> Option<Walked> {
+        walk(self, bytes, next, id, self.definitions)
+    }
+
+    #[inline(always)]
     fn take_back(self, bytes: &mut [u8], at: u64) {
         take_back(bytes, at);
     }
@@ -108,7 +120,7 @@ fn store_pairs<'a>(
     bytes: &mut [u8],
     at: u64,
     fields: PlacedBits<'a>,
-    element: Op,
+    element: HeldOp,
     count: u64,
 ) -> Option<(u64, PlacedBits<'a>)> {
     let mut bits = fields;

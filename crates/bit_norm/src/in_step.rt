@@ -7,7 +7,7 @@ use crate::magics::{magic_bit, magic_standing};
 use crate::sign::Sign;
 use crate::walk::{Walk, one_more};
 use crate::writing::number_of_magic;
-use bit_abbrev::{Coming, Abbrev, InForce};
+use bit_abbrev::{Coming, Entered, HeldOps};
 use bit_events::{
     CountedRecord, Event, Folded, Gatherer, OpenBlocks, PackedEvent, PassedRun, RecordHead,
     RunCounter, SliceEvents, Uncounted, fold, pass_records,
@@ -367,7 +367,7 @@ impl<'a> Comparer<'a> {
     fn pass_equal(
         &mut self,
         next: Coming<'_>,
-        definitions: &InForce,
+        definitions: Entered<'_>,
     ) -> Result<PassedRun, AllocError>
     {
         let mut equal = EqualRecords {
@@ -573,12 +573,7 @@ impl<'a> Gatherer for Comparer<'a> {
         Ok(())
     }
 
-    fn defined(&mut self, _first: u64, after: u64) -> Result<bool, AllocError> {
-        self.passes_event(after)?;
-        Ok(true)
-    }
-
-    fn define(&mut self, _abbrev: &Abbrev, _first: u64, after: u64) -> Result<(), AllocError> {
+    fn define(&mut self, _ops: HeldOps<'_>, _first: u64, after: u64) -> Result<(), AllocError> {
         self.passes_event(after)?;
         Ok(())
     }
@@ -606,12 +601,7 @@ impl<'a> Gatherer for Comparer<'a> {
         self.passed_to > 0
     }
 
-    #[inline(always)]
-    fn is_planned(&self) -> bool {
-        true
-    }
-
-    fn pass(&mut self, next: Coming<'_>, definitions: &InForce) -> Result<PassedRun, AllocError> {
+    fn pass(&mut self, next: Coming<'_>, definitions: Entered<'_>) -> Result<PassedRun, AllocError> {
         if self.passed_to == 0 {
             return Ok(PassedRun::none(next));
         }

@@ -1,6 +1,6 @@
 
 use crate::rows::{Addition, BlockRow, BlockRows};
-use bit_abbrev::{Coming, Abbrev, InForce};
+use bit_abbrev::{Coming, Entered, HeldOps};
 use bit_events::{Gatherer, PassedRun};
 use bit_fields::{ValueCount, ValueTaker};
 use std::alloc::{AllocError, Global};
@@ -114,12 +114,7 @@ impl Gatherer for Counter {
         self.open_block(id, first)
     }
 
-    fn defined(&mut self, _first: u64, _after: u64) -> Result<bool, AllocError> {
-        self.count_here(Addition::Definition)?;
-        Ok(true)
-    }
-
-    fn define(&mut self, _abbrev: &Abbrev, _first: u64, _after: u64) -> Result<(), AllocError> {
+    fn define(&mut self, _ops: HeldOps<'_>, _first: u64, _after: u64) -> Result<(), AllocError> {
         self.count_here(Addition::Definition)
     }
 
@@ -146,12 +141,7 @@ impl Gatherer for Counter {
     }
 
     #[inline(always)]
-    fn is_planned(&self) -> bool {
-        true
-    }
-
-    #[inline(always)]
-    fn pass(&mut self, next: Coming<'_>, definitions: &InForce) -> Result<PassedRun, AllocError> {
+    fn pass(&mut self, next: Coming<'_>, definitions: Entered<'_>) -> Result<PassedRun, AllocError> {
         match self.open.last() {
             Some(block) => self
                 .rows

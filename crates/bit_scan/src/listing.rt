@@ -1,7 +1,7 @@
 
 use crate::printer::Printer;
 use crate::text_buffer::BATCH;
-use bit_abbrev::{Coming, Abbrev, InForce};
+use bit_abbrev::{Coming, Entered, HeldOps};
 use bit_events::{CountedRecord, Event, Gatherer, OpenBlocks, PackedEvent, PackedEvents, PassedRun, RunCounter, list_records};
 use bit_fields::{Fault, Limits, PackedValues, Sink, SliceSource, WideSlice};
 use bit_grammar::Info;
@@ -254,12 +254,8 @@ impl<'a, K: Sink> Gatherer for ListingWriter<'a, K> {
         })
     }
 
-    fn define(&mut self, abbrev: &Abbrev, first: u64, after: u64) -> Result<(), AllocError> {
-        self.write(Event::Define {
-            abbrev,
-            first,
-            after,
-        })
+    fn define(&mut self, _ops: HeldOps<'_>, _first: u64, _after: u64) -> Result<(), AllocError> {
+        Ok(())
     }
 
     fn record(
@@ -283,7 +279,7 @@ impl<'a, K: Sink> Gatherer for ListingWriter<'a, K> {
     }
 
     #[inline(always)]
-    fn pass(&mut self, next: Coming<'_>, definitions: &InForce) -> Result<PassedRun, AllocError> {
+    fn pass(&mut self, next: Coming<'_>, definitions: Entered<'_>) -> Result<PassedRun, AllocError> {
         list_records(next, definitions, self)
     }
 
