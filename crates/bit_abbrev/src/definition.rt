@@ -8,22 +8,13 @@ use bit_fields::{BitReader, Fault, PlacedBits, Source};
 use bit_grammar::{Kind, Op, Place, Reason, Shapes};
 use std::alloc::{AllocError, Global};
 
-/// Operands that were read: how many, and how the fields of their records are laid out.
-#[derive(Clone, Copy)]
-pub(crate) struct ReadOps {
-    pub(crate) count: u64,
-    pub(crate) layout: Layout,
-}
-
-impl ReadOps {
-    /// How many single operands come behind the first one, if the layout is neither `Odd` nor `Unlawful`.
-    #[inline(always)]
-    pub(crate) fn singles(self) -> u8 {
-        match self.layout {
-            Layout::Singles | Layout::Coded => self.count as u8 - 1,
-            Layout::List => self.count as u8 - 3,
-            Layout::Odd | Layout::Unlawful => 0,
-        }
+/// Whether a record with this operand is read one value after another.
+#[inline(always)]
+fn is_odd(op: Op) -> bool {
+    match op {
+        Op::Literal(value) => value >= 1 << 16,
+        Op::Vbr(width) => width == 0,
+        _ => false,
     }
 }
 
@@ -97,12 +88,12 @@ fn read_count<S: Source>(reader: &mut BitReader<S>) -> Result<u64, Fault> {
 }
 
 /// What is known of a definition behind some of its operands: the place of the next one, whether those are in a lawful order, and
-/// whether one of them is a number in chunks of no bits.
+/// whether one of them is odd.
 #[derive(Clone, Copy)]
 struct Sofar {
     place: Place,
     is_lawful: bool,
-    has_empty: bool,
+    has_odd: bool,
 }
 
 impl Sofar {
@@ -110,7 +101,7 @@ impl Sofar {
     const NONE: Sofar = Sofar {
         place: Place::First,
         is_lawful: true,
-        has_empty: false,
+        has_odd: false,
     };
 
     /// Behind another operand, which may be where it is or not.
@@ -119,7 +110,7 @@ impl Sofar {
         Sofar {
             place: place_after(op),
             is_lawful: self.is_lawful && fits,
-            has_empty: self.has_empty || matches!(op, Op::Vbr(0)),
+            has_odd: self.has_odd || is_odd(op),
         }
     }
 }
@@ -130,7 +121,7 @@ fn read_operands<S: Source, T: OpTaker>(
     reader: &mut BitReader<S>,
     shapes: Shapes,
     ops: &mut T,
-) -> Result<(u64, Sofar), Fault> {
+) -> Result<Sofar, Fault> {
     let count = read_count(reader)?;
     let mut sofar = Sofar::NONE;
     for done in 0..count {
@@ -144,7 +135,7 @@ fn read_operands<S: Source, T: OpTaker>(
         }
         sofar = sofar.behind(op, fits);
     }
-    Ok((count, sofar))
+    Ok(sofar)
 }
 
 /// Reads a definition after its abbreviation id: its operands come behind those of a list. If it fails, some may have been added.
@@ -154,15 +145,13 @@ pub(crate) fn read_definition<S: Source>(
     reader: &mut BitReader<S>,
     shapes: Shapes,
     ops: &mut Vec<HeldOp>,
-) -> Result<ReadOps, Fault> {
+) -> Result<Layout, Fault> {
     let start = ops.len();
-    let (count, sofar) = read_operands(reader, shapes, ops)?;
-    let layout = if sofar.is_lawful {
-        layout_of(&ops[start..], count, sofar.has_empty)
-    } else {
-        Layout::Unlawful
-    };
-    Ok(ReadOps { count, layout })
+    let sofar = read_operands(reader, shapes, ops)?;
+    if !sofar.is_lawful {
+        return Ok(Layout::Unlawful);
+    }
+    Ok(layout_of(&ops[start..], sofar.has_odd))
 }
 
 /// Reads a definition after its abbreviation id. If shapes are judged at their use, operands in any order are read.
@@ -229,7 +218,7 @@ fn placed_operands(
 ) -> Option<(bool, u64)> {
     let mut bits = from;
     let mut place = Place::First;
-    let mut has_empty = false;
+    let mut has_odd = false;
     let mut left = count;
     while left > 0 {
         if !bits.has(128) {
@@ -245,13 +234,13 @@ fn placed_operands(
         } else {
             let (op, after) = long_op(bits, place)?;
             push(ops, op).ok()?;
-            has_empty |= matches!(op, Op::Vbr(0));
+            has_odd |= is_odd(op);
             place = Place::Later;
             bits = after;
         }
         left -= 1;
     }
-    Some((has_empty, bits.position()))
+    Some((has_odd, bits.position()))
 }
 
 /// The same as `read_definition` in buffered bits, with the bit after the definition. `None` leaves it to the reader: what is not there,
@@ -260,7 +249,7 @@ fn placed_operands(
 pub(crate) fn placed_definition(
     fields: PlacedBits<'_>,
     ops: &mut Vec<HeldOp>,
-) -> Option<(ReadOps, u64)> {
+) -> Option<(Layout, u64)> {
     if !fields.has(128) {
         return None;
     }
@@ -269,7 +258,6 @@ pub(crate) fn placed_definition(
     if count == 0 {
         return None;
     }
-    let (has_empty, after) = placed_operands(bits, count, ops)?;
-    let layout = layout_of(&ops[start..], count, has_empty);
-    Some((ReadOps { count, layout }, after))
+    let (has_odd, after) = placed_operands(bits, count, ops)?;
+    Some((layout_of(&ops[start..], has_odd), after))
 }

@@ -1,6 +1,6 @@
 //! The definitions of the open blocks and of BLOCKINFO blocks.
 
-use crate::definition::{ReadOps, placed_definition, read_definition};
+use crate::definition::{placed_definition, read_definition};
 use crate::held_op::{HeldOp, HeldOps};
 use crate::layout::Layout;
 use crate::plan::Plan;
@@ -17,14 +17,12 @@ const LONG: usize = u16::MAX as usize;
 /// How many operands a list has room for at most that is used again.
 const KEPT: usize = 8192;
 
-/// Where a definition is in a list: where its operands begin, how many places they take, how its records are laid out, and how many
-/// single operands come behind the first one, if the layout is neither `Odd` nor `Unlawful`.
+/// Where a definition is in a list: where its operands begin, how many places they take, and how its records are laid out.
 #[derive(Clone, Copy, Drop)]
 pub struct Head {
     start: u32,
     len: u16,
     pub(crate) layout: Layout,
-    pub(crate) singles: u8,
 }
 
 impl Head {
@@ -54,7 +52,7 @@ impl List {
 
     /// Adds the head of a definition whose operands begin at a place.
     #[inline(always)]
-    fn close(&mut self, start: usize, read: ReadOps) -> Result<(), AllocError> {
+    fn close(&mut self, start: usize, layout: Layout) -> Result<(), AllocError> {
         let len = self.ops.len() - start;
         if len >= LONG {
             self.ops.push(HeldOp::End)?;
@@ -65,8 +63,7 @@ impl List {
         self.heads.push(Head {
             start: start as u32,
             len: len.min(LONG) as u16,
-            layout: read.layout,
-            singles: read.singles(),
+            layout,
         })?;
         Ok(())
     }
@@ -75,8 +72,8 @@ impl List {
     #[inline(always)]
     fn place(&mut self, fields: PlacedBits<'_>) -> Option<u64> {
         let start = self.ops.len();
-        if let Some((read, after)) = placed_definition(fields, &mut self.ops) {
-            if self.close(start, read).is_ok() {
+        if let Some((layout, after)) = placed_definition(fields, &mut self.ops) {
+            if self.close(start, layout).is_ok() {
                 return Some(after);
             }
         }
@@ -88,7 +85,7 @@ impl List {
     fn read<S: Source>(&mut self, reader: &mut BitReader<S>, shapes: Shapes) -> Result<(), Fault> {
         let start = self.ops.len();
         let fault = match read_definition(reader, shapes, &mut self.ops) {
-            Ok(read) => match self.close(start, read) {
+            Ok(layout) => match self.close(start, layout) {
                 Ok(()) => return Ok(()),
                 Err(_) => reader.fail(Fault::Memory),
             },

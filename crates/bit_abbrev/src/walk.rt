@@ -1,7 +1,7 @@
 //! One walk over a record that lies whole in buffered bits, for any visitor.
 
-use crate::definitions::{Head, InForce};
-use crate::held_op::{HeldOp, great_value};
+use crate::definitions::InForce;
+use crate::held_op::HeldOp;
 use crate::layout::Layout;
 use crate::plan::{Passed, Plan, pass_plain};
 use crate::taking::skip_some;
@@ -169,7 +169,7 @@ pub trait Visitor<C>: Copy {
     }
 }
 
-/// The value of a single operand that takes one place, and the bits after its field. If a number has more than 57 bits, so many more are
+/// The value of a single operand that is no greater literal, and the bits after its field. If a number has more than 57 bits, so many more are
 /// there.
 #[inline(always)]
 pub fn value_of<'a>(bits: PlacedBits<'a>, op: HeldOp, more: u64) -> Option<(u64, PlacedBits<'a>)> {
@@ -181,30 +181,6 @@ pub fn value_of<'a>(bits: PlacedBits<'a>, op: HeldOp, more: u64) -> Option<(u64,
         _ => (character(bits.front(6)), 6),
     };
     Some((value, bits.after(width)))
-}
-
-/// A definition that is not odd: the places of its operands, and its head.
-#[derive(Clone, Copy)]
-struct Definition<'a> {
-    ops: &'a [HeldOp],
-    head: Head,
-}
-
-/// The code of a record, and the bits after its field.
-#[derive(Clone, Copy)]
-struct Coded<'a> {
-    code: u64,
-    bits: PlacedBits<'a>,
-}
-
-/// The code of a record of these operands.
-#[inline(always)]
-fn code_of<'a>(fields: PlacedBits<'a>, ops: &[HeldOp]) -> Option<Coded<'a>> {
-    let (code, bits) = match ops[0] {
-        HeldOp::Great(_) => (great_value(ops), fields),
-        op => value_of(fields, op, FIELDS)?,
-    };
-    Some(Coded { code, bits })
 }
 
 /// How many of the first operands are numbers in chunks of six bits, at most nine. The first one is.
@@ -265,14 +241,7 @@ fn walk_singles<'a, C, V: Visitor<C>>(
                 }
             }
         }
-        let (value, after) = match *op {
-            HeldOp::More(_) => {
-                rest = others;
-                continue;
-            }
-            HeldOp::Great(_) => (great_value(rest), bits),
-            op => value_of(bits, op, FIELDS)?,
-        };
+        let (value, after) = value_of(bits, *op, FIELDS)?;
         at = by.value(cells, at, value)?;
         bits = after;
         rest = others;
@@ -285,13 +254,8 @@ fn walk_singles<'a, C, V: Visitor<C>>(
 fn skip_singles<'a>(first: PlacedBits<'a>, ops: &[HeldOp]) -> Option<PlacedBits<'a>> {
     let mut bits = first;
     for op in ops {
-        match *op {
-            HeldOp::Literal(_) | HeldOp::Great(_) | HeldOp::More(_) => {}
-            op => {
-                let (_, after) = value_of(bits, op, FIELDS)?;
-                bits = after;
-            }
-        }
+        let (_, after) = value_of(bits, *op, FIELDS)?;
+        bits = after;
     }
     Some(bits)
 }
@@ -325,35 +289,15 @@ fn walk_plain<C, V: Visitor<C>>(by: V, cells: &mut [C], next: Coming<'_>) -> Opt
     Walked::over(fields, here, code, count)
 }
 
-/// Walks over a record of single operands, behind its code.
-#[inline(always)]
-fn walk_behind_code<C, V: Visitor<C>>(
-    by: V,
-    cells: &mut [C],
-    next: Coming<'_>,
-    definition: Definition<'_>,
-    coded: Coded<'_>,
-) -> Option<Walked> {
-    let Coded { code, bits } = coded;
-    let count = u64::from(definition.head.singles);
-    if count > next.room {
-        return None;
-    }
-    let at = by.front(cells, next.at, code, count);
-    let here = walk_singles(by, cells, Here { at, bits }, &definition.ops[1..])?;
-    Walked::over(next.fields(), here, code, count)
-}
-
 /// Walks over a record with an array.
 #[inline(always)]
 fn walk_list<C, V: Visitor<C>>(
     by: V,
     cells: &mut [C],
     next: Coming<'_>,
-    definition: Definition<'_>,
+    ops: &[HeldOp],
 ) -> Option<Walked> {
-    let ops = definition.ops;
-    let Coded { code, bits } = code_of(next.fields(), ops)?;
+    let (code, bits) = value_of(next.fields(), ops[0], FIELDS)?;
     let singles = &ops[1..ops.len() - 2];
     let mut here = Here { at: next.at, bits };
     if by.has_front() {
@@ -362,7 +306,7 @@ fn walk_list<C, V: Visitor<C>>(
         here = walk_singles(by, cells, here, singles)?;
     }
     let (number, elements) = here.bits.number(6)?;
-    let count = number.saturating_add(u64::from(definition.head.singles));
+    let count = number.saturating_add(singles.len() as u64);
     if count > next.room || !by.fits(cells, here.at, count) {
         return None;
     }
@@ -376,22 +320,50 @@ fn walk_list<C, V: Visitor<C>>(
     Walked::over(next.fields(), here, code, count)
 }
 
-/// Walks over a record whose code is no literal below 65,536, or that has an array.
+/// Walks over a record of single operands of which the first one is a field.
+#[inline(always)]
+fn walk_coded<C, V: Visitor<C>>(
+    by: V,
+    cells: &mut [C],
+    next: Coming<'_>,
+    ops: &[HeldOp],
+) -> Option<Walked> {
+    let (code, bits) = value_of(next.fields(), ops[0], FIELDS)?;
+    let count = ops.len() as u64 - 1;
+    if count > next.room {
+        return None;
+    }
+    let at = by.front(cells, next.at, code, count);
+    let here = walk_singles(by, cells, Here { at, bits }, &ops[1..])?;
+    Walked::over(next.fields(), here, code, count)
+}
+
+/// Walks over a record whose code is a field, or that has an array.
 #[inline(never)]
 fn walk_other<C, V: Visitor<C>>(
     by: V,
     cells: &mut [C],
     next: Coming<'_>,
-    definition: Definition<'_>,
+    ops: &[HeldOp],
+    layout: Layout,
 ) -> Option<Walked> {
-    match definition.head.layout {
-        Layout::List => walk_list(by, cells, next, definition),
-        Layout::Coded => {
-            let coded = code_of(next.fields(), definition.ops)?;
-            walk_behind_code(by, cells, next, definition, coded)
-        }
+    match layout {
+        Layout::List => walk_list(by, cells, next, ops),
+        Layout::Coded => walk_coded(by, cells, next, ops),
         Layout::Singles | Layout::Odd | Layout::Unlawful => None,
     }
+}
+
+/// The same. What is lent to the call is laid out here, and not for each record.
+#[inline(always)]
+fn walk_apart<C, V: Visitor<C>>(
+    by: V,
+    cells: &mut [C],
+    next: Coming<'_>,
+    ops: &[HeldOp],
+    layout: Layout,
+) -> Option<Walked> {
+    walk_other(by, cells, next, ops, layout)
 }
 
 /// Walks over a record by its definition, if that is not odd. `None` walks over nothing: then the record is read one value after another,
@@ -406,18 +378,20 @@ pub fn walk<C, V: Visitor<C>>(
 ) -> Option<Walked> {
     let head = definitions.head(id)?;
     let ops = definitions.ops(id, head);
-    let definition = Definition { ops, head: *head };
-    if head.layout == Layout::Singles {
-        let HeldOp::Literal(code) = ops[0] else {
-            return None;
-        };
-        let coded = Coded {
-            code: u64::from(code),
-            bits: next.fields(),
-        };
-        return walk_behind_code(by, cells, next, definition, coded);
+    if head.layout != Layout::Singles {
+        return walk_apart(by, cells, next, ops, head.layout);
     }
-    walk_other(by, cells, next, definition)
+    let [HeldOp::Literal(code), singles @ ..] = ops else {
+        return None;
+    };
+    let (code, count) = (u64::from(*code), singles.len() as u64);
+    if count > next.room {
+        return None;
+    }
+    let bits = next.fields();
+    let at = by.front(cells, next.at, code, count);
+    let here = walk_singles(by, cells, Here { at, bits }, singles)?;
+    Walked::over(bits, here, code, count)
 }
 
 /// A visitor that only counts.
