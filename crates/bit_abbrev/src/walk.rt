@@ -382,7 +382,7 @@ pub fn walk<C, V: Visitor<C>>(
         return walk_apart(by, cells, next, ops, head.layout);
     }
     let [HeldOp::Literal(code), singles @ ..] = ops else {
-        return None;
+        unreachable!();
     };
     let (code, count) = (u64::from(*code), singles.len() as u64);
     if count > next.room {
@@ -481,11 +481,10 @@ pub struct Listing<'a> {
     pub definitions: &'a InForce<'a>,
 }
 
-/// The same record, with the first place as the next one.
+/// The same record at the first place: each record is listed there.
 #[inline(always)]
-fn again(record: Option<Walked>) -> Option<Walked> {
-    let record = record?;
-    Some(Walked { at: 0, ..record })
+fn at_first(next: Coming<'_>) -> Coming<'_> {
+    Coming { at: 0, ..next }
 }
 
 impl<'d> Visitor<u64> for Listing<'d> {
@@ -524,12 +523,12 @@ impl<'d> Visitor<u64> for Listing<'d> {
 
     #[inline(always)]
     fn plain(self, cells: &mut [u64], next: Coming<'_>) -> Option<Walked> {
-        again(walk_plain(self, cells, next))
+        walk_plain(self, cells, at_first(next))
     }
 
     #[inline(always)]
     fn abbreviated(self, cells: &mut [u64], next: Coming<'_>, id: u64) -> Option<Walked> {
-        again(walk(self, cells, next, id, self.definitions))
+        walk(self, cells, at_first(next), id, self.definitions)
     }
 
     #[inline(always)]
