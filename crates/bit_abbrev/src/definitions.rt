@@ -436,16 +436,16 @@ impl<'a> InForce<'a> {
 
 /// The definitions in force in the innermost block, and their plans.
 #[derive(Drop)]
-pub struct Entered<'a> {
+pub struct BlockDefinitions<'a> {
     definitions: &'a mut Definitions,
     marks: Marks,
 }
 
-impl<'a> Entered<'a> {
+impl<'a> BlockDefinitions<'a> {
     /// Those of the innermost block.
     #[inline(always)]
-    pub fn of(definitions: &'a mut Definitions, marks: Marks) -> Entered<'a> {
-        Entered { definitions, marks }
+    pub fn of(definitions: &'a mut Definitions, marks: Marks) -> BlockDefinitions<'a> {
+        BlockDefinitions { definitions, marks }
     }
 
     /// All of them.

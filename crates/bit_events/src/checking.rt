@@ -2,7 +2,7 @@
 use crate::folding::fold;
 use crate::gatherer::Gatherer;
 use crate::passing::{PassedRun, Uncounted, pass_records};
-use bit_abbrev::{Coming, Entered, HeldOps};
+use bit_abbrev::{BlockDefinitions, Coming, HeldOps};
 use bit_fields::{Fault, KeptSource, Limits, Source, ValueCount};
 use std::alloc::{AllocError, Global};
 
@@ -48,7 +48,7 @@ impl Gatherer for Nothing {
     }
 
     #[inline(always)]
-    fn pass(&mut self, next: Coming<'_>, definitions: Entered<'_>) -> Result<PassedRun, AllocError> {
+    fn pass(&mut self, next: Coming<'_>, definitions: BlockDefinitions<'_>) -> Result<PassedRun, AllocError> {
         pass_records(next, definitions, &mut Uncounted)
     }
 

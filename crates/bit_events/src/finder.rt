@@ -7,7 +7,7 @@ use crate::gatherer::Gatherer;
 use crate::machine::{Machine, Step};
 use crate::passing::{CountedRecord, RunCounter, pass_records};
 use crate::with_first::WithFirst;
-use bit_abbrev::{Abbrev, Coming, Entered};
+use bit_abbrev::{Abbrev, BlockDefinitions, Coming};
 use bit_fields::{
     BitReader, Fault, Head, Limits, PackedValues, SliceSource, Source, ValueCount, ValueKeeper, ValueTaker,
 };
@@ -40,10 +40,10 @@ impl<S: Source, V: ValueKeeper> Model for EventFinder<S, V> {
 
     ghost Value = { Coming };
 
-    ghost view = { λ e. coming_of e.over e.limits e.head e.machine (V.kept e.values.taker) e.found
+    ghost view = { λ e. coming_of e.over e.machine.limits e.head e.machine (V.kept e.values.taker) e.found
         e.reached e.reader };
 
-    ghost invariant = { λ e. IsEvents e.over e.limits e.machine e.found e.reached e.reader };
+    ghost invariant = { λ e. IsEvents e.over e.machine.limits e.machine e.found e.reached e.reader };
 }
 
 impl<S: Source, V: ValueKeeper> EventFinder<S, V> {
@@ -190,7 +190,7 @@ impl<S: Source, V: ValueKeeper> EventFinder<S, V> {
         };
         let first = next.bits.position();
         let mut passing = Passing { left: most };
-        let definitions = Entered::of(&mut self.machine.definitions, frame.marks);
+        let definitions = BlockDefinitions::of(&mut self.machine.definitions, frame.marks);
         let Ok(run) = pass_records(next, definitions, &mut passing) else {
             return 0;
         };

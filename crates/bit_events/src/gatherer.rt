@@ -7,7 +7,7 @@ ghost use Rattle.bit_events.specs.MachineView.{TookSome};
 ghost use Rattle.bit_events.specs.Passing.{PassesRun};
 
 use crate::passing::PassedRun;
-use bit_abbrev::{Coming, Entered, HeldOps};
+use bit_abbrev::{BlockDefinitions, Coming, HeldOps};
 use bit_fields::ValueTaker;
 use std::alloc::AllocError;
 
@@ -51,7 +51,7 @@ pub trait Gatherer {
 
     /// Gathers records of the innermost block, which come next: as many as it likes.
     #[inline(always)]
-    fn pass(&mut self, next: Coming<'_>, _definitions: Entered<'_>) -> Result<PassedRun, AllocError> {
+    fn pass(&mut self, next: Coming<'_>, _definitions: BlockDefinitions<'_>) -> Result<PassedRun, AllocError> {
         Ok(PassedRun::none(next))
     }
 

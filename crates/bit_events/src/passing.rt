@@ -1,7 +1,7 @@
 //! Runs of records that are walked over in buffered bits.
 
 use bit_abbrev::{
-    Coming, Counting, Entered, FEW, Listing, MARGIN, Planned, Visitor, Walked,
+    BlockDefinitions, Coming, Counting, FEW, Listing, MARGIN, Planned, Visitor, Walked,
 };
 use bit_fields::PlacedBits;
 use std::alloc::AllocError;
@@ -158,7 +158,7 @@ pub fn walk_run<C, V: Visitor<C>, R: RunCounter>(
 #[inline(always)]
 fn pass_planned<R: RunCounter>(
     first: Coming<'_>,
-    definitions: &mut Entered<'_>,
+    definitions: &mut BlockDefinitions<'_>,
     counter: &mut R,
 ) -> Result<PassedRun, AllocError> {
     let mut none = [0_u8; 1];
@@ -184,7 +184,7 @@ fn pass_planned<R: RunCounter>(
 #[inline(always)]
 pub fn pass_records<R: RunCounter>(
     next: Coming<'_>,
-    definitions: Entered<'_>,
+    definitions: BlockDefinitions<'_>,
     counter: &mut R,
 ) -> Result<PassedRun, AllocError> {
     let mut definitions = definitions;
@@ -205,7 +205,7 @@ pub fn pass_records<R: RunCounter>(
 #[inline(always)]
 pub fn list_records<R: RunCounter>(
     next: Coming<'_>,
-    definitions: Entered<'_>,
+    definitions: BlockDefinitions<'_>,
     counter: &mut R,
 ) -> Result<PassedRun, AllocError> {
     let by = Listing {

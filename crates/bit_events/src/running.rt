@@ -3,7 +3,7 @@
 use crate::gatherer::Gatherer;
 use crate::machine::Machine;
 use crate::with_first::WithFirst;
-use bit_abbrev::{Coming, Entered, MARGIN};
+use bit_abbrev::{BlockDefinitions, Coming, MARGIN};
 use bit_fields::{PlacedBits, ValueTaker};
 use std::alloc::AllocError;
 
@@ -22,7 +22,7 @@ fn gather_run<'a, G: Gatherer>(
         return Ok((bits, false));
     };
     let width = u32::from(frame.head.width);
-    let definitions = Entered::of(&mut machine.definitions, frame.marks);
+    let definitions = BlockDefinitions::of(&mut machine.definitions, frame.marks);
     let at = 0;
     let next = Coming {
         at,

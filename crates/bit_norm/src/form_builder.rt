@@ -1,7 +1,7 @@
 
 use crate::form_run::{SHORT, Storing};
 use crate::form_values::{FormValues, is_long};
-use bit_abbrev::{Coming, Entered, HeldOps, InForce};
+use bit_abbrev::{BlockDefinitions, Coming, HeldOps, InForce};
 use bit_events::{Gatherer, OpenBlocks, PassedRun, Uncounted, walk_run};
 use bit_fields::{BitText, Limits};
 use bit_tree::Info;
@@ -257,7 +257,7 @@ impl<'a> FormBuilder<'a> {
     fn pass_run(
         &mut self,
         next: Coming<'_>,
-        definitions: Entered<'_>,
+        definitions: BlockDefinitions<'_>,
     ) -> Result<PassedRun, AllocError>
     {
         if self.long || !self.standing.is_whole() {
@@ -312,7 +312,7 @@ impl<'a> Gatherer for FormBuilder<'a> {
     }
 
     #[inline(always)]
-    fn pass(&mut self, next: Coming<'_>, definitions: Entered<'_>) -> Result<PassedRun, AllocError> {
+    fn pass(&mut self, next: Coming<'_>, definitions: BlockDefinitions<'_>) -> Result<PassedRun, AllocError> {
         self.pass_run(next, definitions)
     }
 

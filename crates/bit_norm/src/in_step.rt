@@ -7,7 +7,7 @@ use crate::magics::{magic_bit, magic_standing};
 use crate::sign::Sign;
 use crate::walk::{Walk, one_more};
 use crate::writing::number_of_magic;
-use bit_abbrev::{Coming, Entered, HeldOps};
+use bit_abbrev::{BlockDefinitions, Coming, HeldOps};
 use bit_events::{
     CountedRecord, Event, Folded, Gatherer, OpenBlocks, PackedEvent, PassedRun, RecordHead,
     RunCounter, SliceEvents, Uncounted, fold, pass_records,
@@ -367,7 +367,7 @@ impl<'a> Comparer<'a> {
     fn pass_equal(
         &mut self,
         next: Coming<'_>,
-        definitions: Entered<'_>,
+        definitions: BlockDefinitions<'_>,
     ) -> Result<PassedRun, AllocError>
     {
         let mut equal = EqualRecords {
@@ -601,7 +601,7 @@ impl<'a> Gatherer for Comparer<'a> {
         self.passed_to > 0
     }
 
-    fn pass(&mut self, next: Coming<'_>, definitions: Entered<'_>) -> Result<PassedRun, AllocError> {
+    fn pass(&mut self, next: Coming<'_>, definitions: BlockDefinitions<'_>) -> Result<PassedRun, AllocError> {
         if self.passed_to == 0 {
             return Ok(PassedRun::none(next));
         }

@@ -1,6 +1,6 @@
 
 use crate::rows::{Addition, BlockRow, BlockRows};
-use bit_abbrev::{Coming, Entered, HeldOps};
+use bit_abbrev::{BlockDefinitions, Coming, HeldOps};
 use bit_events::{Gatherer, PassedRun};
 use bit_fields::{ValueCount, ValueTaker};
 use std::alloc::{AllocError, Global};
@@ -141,7 +141,7 @@ impl Gatherer for Counter {
     }
 
     #[inline(always)]
-    fn pass(&mut self, next: Coming<'_>, definitions: Entered<'_>) -> Result<PassedRun, AllocError> {
+    fn pass(&mut self, next: Coming<'_>, definitions: BlockDefinitions<'_>) -> Result<PassedRun, AllocError> {
         match self.open.last() {
             Some(block) => self
                 .rows

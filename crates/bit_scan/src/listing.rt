@@ -1,7 +1,7 @@
 
 use crate::printer::Printer;
 use crate::text_buffer::BATCH;
-use bit_abbrev::{Coming, Entered, HeldOps};
+use bit_abbrev::{BlockDefinitions, Coming, HeldOps};
 use bit_events::{CountedRecord, Event, Gatherer, OpenBlocks, PackedEvent, PackedEvents, PassedRun, RunCounter, list_records};
 use bit_fields::{Fault, Limits, PackedValues, Sink, SliceSource, WideSlice};
 use bit_grammar::Info;
@@ -279,7 +279,7 @@ impl<'a, K: Sink> Gatherer for ListingWriter<'a, K> {
     }
 
     #[inline(always)]
-    fn pass(&mut self, next: Coming<'_>, definitions: Entered<'_>) -> Result<PassedRun, AllocError> {
+    fn pass(&mut self, next: Coming<'_>, definitions: BlockDefinitions<'_>) -> Result<PassedRun, AllocError> {
         list_records(next, definitions, self)
     }
 

@@ -1,6 +1,6 @@
 
 use crate::links::{Keyed, Spot, find, is_at, lead};
-use bit_abbrev::{Coming, Entered};
+use bit_abbrev::{BlockDefinitions, Coming};
 use bit_events::{CountedRecord, PassedRun, RunCounter, pass_records};
 use bit_fields::PlacedBits;
 use std::alloc::{AllocError, Global};
@@ -315,7 +315,7 @@ impl BlockRow {
         &mut self,
         places: &mut CodePlaces,
         next: Coming<'_>,
-        definitions: Entered<'_>,
+        definitions: BlockDefinitions<'_>,
     ) -> Result<PassedRun, AllocError>
     {
         let mut counter = RowCounter {
@@ -364,7 +364,7 @@ fn pass_at(
     places: &mut Places,
     place: usize,
     next: Coming<'_>,
-    definitions: Entered<'_>,
+    definitions: BlockDefinitions<'_>,
 ) -> Result<PassedRun, AllocError>
 {
     let (_, row) = &mut rows[place];
@@ -490,7 +490,7 @@ impl BlockRows {
         id: u32,
         place: usize,
         next: Coming<'_>,
-        definitions: Entered<'_>,
+        definitions: BlockDefinitions<'_>,
     ) -> Result<PassedRun, AllocError>
     {
         if !is_at(&self.rows, place, u64::from(id)) {

@@ -6,7 +6,7 @@ use crate::format::{EventStyle, Format};
 use crate::listing::{around_after, few_of, kept, write_values};
 use crate::printer::Printer;
 use crate::record_lines::{Noted, Opened};
-use bit_abbrev::{Abbrev, Coming, Entered, HeldOps};
+use bit_abbrev::{Abbrev, BlockDefinitions, Coming, HeldOps};
 use bit_events::{CountedRecord, Event, Gatherer, PackedEvent, PackedEvents, PassedRun, RunCounter, list_records};
 use bit_fields::{Fault, Head, Limits, PackedValues, Reason, Sink, Source, WideSlice};
 use bit_grammar::{Op, ValueDisplay};
@@ -606,7 +606,7 @@ impl<K: Sink> Gatherer for EventWriter<K> {
     }
 
     #[inline(always)]
-    fn pass(&mut self, next: Coming<'_>, definitions: Entered<'_>) -> Result<PassedRun, AllocError> {
+    fn pass(&mut self, next: Coming<'_>, definitions: BlockDefinitions<'_>) -> Result<PassedRun, AllocError> {
         list_records(next, definitions, self)
     }
 
