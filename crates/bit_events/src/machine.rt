@@ -273,7 +273,7 @@ impl Machine {
     /// The same in a BLOCKINFO block. The earlier values are dropped.
     #[cold]
     #[inline(never)]
-    pub(crate) fn info_record<V: ValueTaker>(
+    fn info_record<V: ValueTaker>(
         &mut self,
         bits: PlacedBits<'_>,
         values: &mut WithFirst<V>,
@@ -289,6 +289,21 @@ impl Machine {
         Some(head)
     }
 
+    /// Takes a record of the innermost block, of any kind, by bits that are there. The earlier values are dropped; if it returns `None`,
+    /// some may have been added.
+    #[inline(always)]
+    pub(crate) fn record<V: ValueTaker>(
+        &mut self,
+        bits: PlacedBits<'_>,
+        values: &mut WithFirst<V>,
+    ) -> Option<RecordHead> {
+        if self.is_plain() {
+            values.clear();
+            return self.take(bits, &mut values.taker);
+        }
+        self.info_record(bits, values)
+    }
+
     /// Takes any step by bits that are there. After a record `values` has its values.
     fn placed_next<V: ValueTaker>(
         &mut self,
@@ -296,19 +311,12 @@ impl Machine {
         values: &mut WithFirst<V>,
     ) -> Result<Option<Step>, AllocError> {
         match bits.part(self.id_width()) {
-            None => return Ok(None),
-            Some(id) if id < 3 => return self.placed_step(bits),
-            Some(_) => {}
-        }
-        let head = if self.is_plain() {
-            values.clear();
-            self.take(bits, &mut values.taker)
-        } else {
-            self.info_record(bits, values)
-        };
-        match head {
-            Some(head) => Ok(Some(Step::Record(head))),
             None => Ok(None),
+            Some(id) if id < 3 => self.placed_step(bits),
+            Some(_) => match self.record(bits, values) {
+                Some(head) => Ok(Some(Step::Record(head))),
+                None => Ok(None),
+            },
         }
     }
 

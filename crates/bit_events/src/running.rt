@@ -4,7 +4,7 @@ use crate::gatherer::Gatherer;
 use crate::machine::Machine;
 use crate::with_first::WithFirst;
 use bit_abbrev::{BlockDefinitions, Coming, MARGIN};
-use bit_fields::{PlacedBits, ValueTaker};
+use bit_fields::PlacedBits;
 use std::alloc::AllocError;
 
 /// Lets the gatherer walk over records of the innermost block. Returns the bits behind them, and whether no record comes there.
@@ -35,7 +35,7 @@ fn gather_run<'a, G: Gatherer>(
     Ok((bits.at(run.after), run.is_over))
 }
 
-/// Whether a record comes next that the gatherer may walk over.
+/// Whether a record comes next that the gatherer may walk over. In a BLOCKINFO block it may not, since each may set the described block.
 fn may_walk<G: Gatherer>(machine: &Machine, bits: PlacedBits<'_>, gatherer: &G) -> bool {
     if !bits.has(MARGIN) || !gatherer.passes() {
         return false;
@@ -43,6 +43,9 @@ fn may_walk<G: Gatherer>(machine: &Machine, bits: PlacedBits<'_>, gatherer: &G) 
     let Some(frame) = machine.frames.last() else {
         return false;
     };
+    if !frame.is_plain() {
+        return false;
+    }
     let id = bits.fixed(u32::from(frame.head.width));
     if id <= 3 {
         return id == 3;
@@ -59,40 +62,20 @@ fn gather_odd<G: Gatherer>(
     from: PlacedBits<'_>,
     machine: &mut Machine,
     gatherer: &mut G,
-    values: &mut G::Values,
-) -> Result<u64, AllocError> {
-    let mut bits = from;
-    loop {
-        values.truncate(0);
-        let Some(head) = machine.plain_record(bits, values) else {
-            return Ok(bits.position());
-        };
-        bits = bits.at(head.after);
-        gatherer.record(head.abbrev, head.code, values, head.first, head.after)?;
-        if may_walk(machine, bits, gatherer) {
-            let (after, is_over) = gather_run(bits, machine, gatherer)?;
-            if is_over {
-                return Ok(after.position());
-            }
-            bits = after;
-        }
-    }
-}
-
-/// Gathers records of a BLOCKINFO block, each of which may set the described block, and returns the bit after them.
-#[cold]
-#[inline(never)]
-fn gather_info<G: Gatherer>(
-    from: PlacedBits<'_>,
-    machine: &mut Machine,
-    gatherer: &mut G,
     values: &mut WithFirst<G::Values>,
 ) -> Result<u64, AllocError> {
     let mut bits = from;
-    while let Some(head) = machine.info_record(bits, values) {
+    while let Some(head) = machine.record(bits, values) {
         bits = bits.at(head.after);
         let taker = &mut values.taker;
         gatherer.record(head.abbrev, head.code, taker, head.first, head.after)?;
+        if may_walk(machine, bits, gatherer) {
+            let (after, is_over) = gather_run(bits, machine, gatherer)?;
+            bits = after;
+            if is_over {
+                break;
+            }
+        }
     }
     Ok(bits.position())
 }
@@ -110,16 +93,16 @@ pub(crate) fn gather_records<'a, G: Gatherer>(
     let Some(frame) = machine.frames.last() else {
         return Ok(from);
     };
-    if !frame.is_plain() {
-        return Ok(from.at(gather_info(from, machine, gatherer, values)?));
+    let mut bits = from;
+    if frame.is_plain() {
+        if ended && from.has(64) && from.fixed(u32::from(frame.head.width)) < 3 {
+            return Ok(from);
+        }
+        let (after, is_over) = gather_run(from, machine, gatherer)?;
+        if is_over {
+            return Ok(after);
+        }
+        bits = after;
     }
-    if ended && from.has(64) && from.fixed(u32::from(frame.head.width)) < 3 {
-        return Ok(from);
-    }
-    let (after, is_over) = gather_run(from, machine, gatherer)?;
-    if is_over {
-        return Ok(after);
-    }
-    let read = gather_odd(after, machine, gatherer, &mut values.taker)?;
-    Ok(from.at(read))
+    Ok(from.at(gather_odd(bits, machine, gatherer, values)?))
 }
