@@ -56,7 +56,7 @@ fn read_zeros<S: Source, V: ValueTaker>(
     Ok(())
 }
 
-/// Reads at most `most` fields of an operand that are there. Returns how many.
+/// Reads at most `most` fields of an operand that are there, if 64 bits are. Returns how many.
 fn read_some<S: Source, V: ValueTaker>(
     reader: &mut BitReader<S>,
     most: u64,
@@ -64,6 +64,9 @@ fn read_some<S: Source, V: ValueTaker>(
     values: &mut V,
 ) -> Result<u64, Fault> {
     let bits = reader.bits();
+    if !bits.has(64) {
+        return Ok(0);
+    }
     let first = bits.position();
     let Ok((count, after)) = take_some(bits, most, held(op), values) else {
         return Err(reader.fail(Fault::Memory));

@@ -310,13 +310,15 @@ impl Machine {
         bits: PlacedBits<'_>,
         values: &mut WithFirst<V>,
     ) -> Result<Option<Step>, AllocError> {
-        match bits.part(self.id_width()) {
+        if !bits.has(64) {
+            return Ok(None);
+        }
+        if bits.fixed(self.id_width()) < 3 {
+            return self.placed_step(bits);
+        }
+        match self.record(bits, values) {
+            Some(head) => Ok(Some(Step::Record(head))),
             None => Ok(None),
-            Some(id) if id < 3 => self.placed_step(bits),
-            Some(_) => match self.record(bits, values) {
-                Some(head) => Ok(Some(Step::Record(head))),
-                None => Ok(None),
-            },
         }
     }
 

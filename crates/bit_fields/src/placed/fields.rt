@@ -44,7 +44,7 @@ impl<'a> PlacedBits<'a> {
         if !self.has(u64::from(n)) {
             return None;
         }
-        Some(last_bits(self.bytes, self.at) & ((1 << n) - 1))
+        Some(last_bits(self.bytes, self.at, u64::from(n)) & ((1 << n) - 1))
     }
 
     /// A number in chunks of n bits, and the bits after it, if it is there.
@@ -137,13 +137,13 @@ impl<'a> PlacedBits<'a> {
     }
 }
 
-/// The bits of bytes from a bit on, of which there are fewer than 64.
+/// The bits of bytes from a bit on, of which n are there, n at most 32, and maybe some behind them.
 #[cold]
 #[inline(never)]
-fn last_bits(bytes: &[u8], at: u64) -> u64 {
+fn last_bits(bytes: &[u8], at: u64, n: u64) -> u64 {
     let mut word = 0;
     let mut place = 0;
-    for byte in &bytes[(at / 8) as usize..] {
+    for byte in &bytes[(at / 8) as usize..((at + n + 7) / 8) as usize] {
         word |= u64::from(*byte) << place;
         place += 8;
     }
