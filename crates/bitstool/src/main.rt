@@ -21,9 +21,10 @@ mod tests;
 
 use crate::devices::{Output, put_all};
 use crate::outcome::Outcome;
-use crate::run::run;
+use crate::run::run_with_hasher;
 use bit_fields::{BufSource, WriteSink};
 use std::alloc::Global;
+use std::hash::RandomState;
 use std::io::{BufReader, BufWriter};
 use std::process::ExitCode;
 use std::{env, io};
@@ -41,11 +42,16 @@ fn words_of(alloc: Global, rt: &HostRuntime) -> io::Result<Vec<String>> {
 }
 
 /// Runs the program on standard input, output and errors. All but the last have a buffer.
-fn run_here(alloc: Global, rt: &HostRuntime, words: Vec<String>) -> io::Result<u8> {
+fn run_here(
+    alloc: Global,
+    rt: &HostRuntime,
+    hasher: RandomState,
+    words: Vec<String>,
+) -> io::Result<u8> {
     let source = BufSource::new(BufReader::with_capacity(alloc, CHUNK, rt.stdin())?);
     let sink = Output::new(BufWriter::with_capacity(alloc, CHUNK, rt.stdout())?);
     let mut errors = WriteSink::new(rt.stderr());
-    Ok(run(alloc, words, source, sink, &mut errors).status)
+    Ok(run_with_hasher(alloc, hasher, words, source, sink, &mut errors).status)
 }
 
 /// Reports that the run could not begin.
@@ -62,10 +68,22 @@ fn refuse(rt: &HostRuntime, error: io::Error) -> u8 {
     outcome.status()
 }
 
+/// Reports that the system gives no keys for a hasher.
+fn refuse_without_keys(rt: &HostRuntime) -> u8 {
+    let _ = put_all(
+        &mut WriteSink::new(rt.stderr()),
+        b"fault: no random bytes\n",
+    );
+    Outcome::Read.status()
+}
+
 fn main(rt: HostRuntime) -> ExitCode {
     let alloc = rt.alloc();
-    let status = words_of(alloc, &rt)
-        .and_then(|words| run_here(alloc, &rt, words))
-        .unwrap_or_else(|error| refuse(&rt, error));
+    let status = match RandomState::new(&rt) {
+        Ok(hasher) => words_of(alloc, &rt)
+            .and_then(|words| run_here(alloc, &rt, hasher, words))
+            .unwrap_or_else(|error| refuse(&rt, error)),
+        Err(_) => refuse_without_keys(&rt),
+    };
     ExitCode::from(status)
 }

@@ -19,6 +19,7 @@ use crate::perform::perform;
 use crate::task::{LeftOut, Parsed, Task};
 use bit_fields::{Limits, Sink, SinkFailed, Source};
 use std::alloc::Global;
+use std::hash::{BuildHasher, BuildHasherDefault, FoldHasher};
 
 /// The result of a run: its exit status, and the devices.
 #[derive(Debug, Drop)]
@@ -64,8 +65,9 @@ fn tell<K: Sink>(outcome: Outcome, errors: &mut K) -> u8
 }
 
 /// Does what the arguments ask for.
-fn obey<S: Source, K: Flush, E: Sink>(
+fn obey<S: Source, K: Flush, E: Sink, H: BuildHasher + Copy>(
     alloc: Global,
+    hasher: H,
     parsed: Parsed,
     source: S,
     mut sink: K,
@@ -78,7 +80,7 @@ fn obey<S: Source, K: Flush, E: Sink>(
 {
     match parsed {
         Parsed::Task(task) => {
-            let (outcome, source, sink) = perform(alloc, task, source, sink);
+            let (outcome, source, sink) = perform(alloc, hasher, task, source, sink);
             let status = tell(outcome, errors);
             Ran {
                 status,
@@ -118,9 +120,10 @@ fn obey<S: Source, K: Flush, E: Sink>(
 /// The whole program on these arguments, which exclude its name. It reads its input from the source, writes its output to the sink,
 /// and writes one line to the errors if it refuses the input or fails. The status is 0 if it succeeds or finds two inputs the same,
 /// 1 if it refuses an input or finds two inputs different, 2 if the arguments are no command, and 3 if the source or the sink
-/// fails or memory runs out.
-pub fn run<S: Source, K: Flush, E: Sink>(
+/// fails or memory runs out. The rows of an analysis are found by the hasher.
+pub fn run_with_hasher<S: Source, K: Flush, E: Sink, H: BuildHasher + Copy>(
     alloc: Global,
+    hasher: H,
     words: Vec<String>,
     source: S,
     sink: K,
@@ -148,5 +151,34 @@ pub fn run<S: Source, K: Flush, E: Sink>(
     } else {
         parse(alloc, &words)
     };
-    obey(alloc, parsed, source, sink, errors)
+    obey(alloc, hasher, parsed, source, sink, errors)
+}
+
+/// The same with the hasher of `IndexMap`, whose seed is fixed.
+pub fn run<S: Source, K: Flush, E: Sink>(
+    alloc: Global,
+    words: Vec<String>,
+    source: S,
+    sink: K,
+    errors: &mut E,
+) -> Ran<S, K>
+    ensures plain { words.items ≡ [] → (left : LeftOutValue) × (setting_for left ≡ keep)
+        × Runs (ParsedValue.Task (TaskValue.Normal usual_limits left))
+        (S.incoming source) (S.incoming result.source) (K.outgoing sink) (K.outgoing result.sink)
+        (E.outgoing errors.old) (E.outgoing errors.new) result.status }
+    ensures any { (words.items ≡ [] → ⊥) → (parsed : ParsedValue)
+        × Says (map string_bytes words.items) parsed
+        × Runs parsed (S.incoming source) (S.incoming result.source) (K.outgoing sink)
+        (K.outgoing result.sink)
+        (E.outgoing errors.old) (E.outgoing errors.new) result.status }
+    ensures handed_on { result.status ≤ 1 → K.handed_on result.sink }
+{
+    run_with_hasher(
+        alloc,
+        BuildHasherDefault::<FoldHasher>::new(),
+        words,
+        source,
+        sink,
+        errors,
+    )
 }

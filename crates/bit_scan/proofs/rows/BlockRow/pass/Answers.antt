@@ -3,10 +3,10 @@ use Rattle.bit_scan.proofs.PassedRows.{none_counted, row_counted}
 use Rattle.bit_scan.proofs.rows.BlockRow.pass.Goals as goal
 
 pub pass_records-requires-clause-none : goal.pass_records-requires-clause-none
-pass_records-requires-clause-none c = none_counted _ (omega arith) (omega arith)
+pass_records-requires-clause-none g c = none_counted _ (omega arith) (omega arith)
 
 pub overflow_sub-room : goal.overflow_sub-room
-overflow_sub-room c = c.in-Ok.ensures.passes.2.less
+overflow_sub-room g c = c.in-Ok.ensures.passes.2.less
 
 pub returns-in-Ok : goal.returns-in-Ok
 returns-in-Ok c =
