@@ -1,4 +1,4 @@
-use Rattle.std.proofs.Common.{◌≡◌, ◌∷◌, ap, sym, ◌∙◌}
+use Rattle.std.proofs.Common.{ap, sym, ◌∙◌}
 use Rattle.std.proofs.lemmas.Result.{err_from_is_err_and}
 use Rattle.bit_scan.specs.CodesView.{code_tally}
 use Rattle.bit_scan.specs.Styles.{code_as}
@@ -14,15 +14,13 @@ loop-code-init g c =
 pub loop-code-preserved : goal.loop-code-preserved
 loop-code-preserved g c =
     let whole = lines_of_codes c.args.format c.args.id c.args.codes.now in
-    let e = (c.in-Some.code.now, c.in-Some.row.now) in
-    goes_on whole c.args.printer.now (code_as c.args.format c.args.id (code_tally e)) (lines_of_codes c.args.format c.args.id c.next.new.self) c.loop-code.printer c.write_code.new.printer
-    (next_code c.args.format c.args.id whole c.args.printer.now c.loop-code.printer c.loop-code.code-iterator c.next.new.self e c.in-Some.ensures.goes c.loop-code.invariant) c.in_ok-write_code.ensures
+    goes_on whole c.args.printer.now (code_as c.args.format c.args.id (code_tally (c.in-Some.code.now, c.in-Some.row.now))) (lines_of_codes c.args.format c.args.id c.next.new.self) c.loop-code.printer c.write_code.new.printer
+    (next_code c.args.format c.args.id whole c.args.printer.now c.loop-code.printer c.loop-code.code-iterator c.next.new.self (c.in-Some.code.now, c.in-Some.row.now) c.in-Some.ensures.steps c.loop-code.invariant) c.in_ok-write_code.ensures
 
 pub returns-in_err-write_code : goal.returns-in_err-write_code
 returns-in_err-write_code g c =
     let whole = lines_of_codes c.args.format c.args.id c.args.codes.now in
-    let e = (c.in-Some.code.now, c.in-Some.row.now) in
     let p = err_from_is_err_and c.from_residual.result c.from_residual.ensures.1 in
     rw (p.1, p.2)
-    (goes_wrong whole c.args.printer.now (code_as c.args.format c.args.id (code_tally e)) (lines_of_codes c.args.format c.args.id c.next.new.self) c.loop-code.printer c.write_code.new.printer c.in_err-write_code.field-0.0
-    (next_code c.args.format c.args.id whole c.args.printer.now c.loop-code.printer c.loop-code.code-iterator c.next.new.self e c.in-Some.ensures.goes c.loop-code.invariant) c.in_err-write_code.ensures)
+    (goes_wrong whole c.args.printer.now (code_as c.args.format c.args.id (code_tally (c.in-Some.code.now, c.in-Some.row.now))) (lines_of_codes c.args.format c.args.id c.next.new.self) c.loop-code.printer c.write_code.new.printer c.in_err-write_code.field-0.0
+    (next_code c.args.format c.args.id whole c.args.printer.now c.loop-code.printer c.loop-code.code-iterator c.next.new.self (c.in-Some.code.now, c.in-Some.row.now) c.in-Some.ensures.steps c.loop-code.invariant) c.in_err-write_code.ensures)

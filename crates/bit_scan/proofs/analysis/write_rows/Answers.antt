@@ -1,4 +1,4 @@
-use Rattle.std.proofs.Common.{◌≡◌, ◌∷◌, ap, sym, ◌∙◌}
+use Rattle.std.proofs.Common.{ap, sym, ◌∙◌}
 use Rattle.std.proofs.lemmas.Result.{err_from_is_err_and}
 use Rattle.bit_scan.specs.Rows.{block_tally}
 use Rattle.bit_scan.specs.Styles.{row_as}
@@ -14,15 +14,13 @@ loop-id-init g c =
 pub loop-id-preserved : goal.loop-id-preserved
 loop-id-preserved g c =
     let whole = lines_of_rows c.args.format c.args.rows.now.entries in
-    let e = (c.in-Some.id.now, c.in-Some.row.now) in
-    goes_on whole c.args.printer.now (row_as c.args.format (block_tally e)) (lines_of_rows c.args.format c.next.new.self) c.loop-id.printer c.write_row.new.printer
-    (next_row c.args.format whole c.args.printer.now c.loop-id.printer c.loop-id.id-iterator c.next.new.self e c.in-Some.ensures.goes c.loop-id.invariant) c.in_ok-write_row.ensures
+    goes_on whole c.args.printer.now (row_as c.args.format (block_tally (c.in-Some.id.now, c.in-Some.row.now))) (lines_of_rows c.args.format c.next.new.self) c.loop-id.printer c.write_row.new.printer
+    (next_row c.args.format whole c.args.printer.now c.loop-id.printer c.loop-id.id-iterator c.next.new.self (c.in-Some.id.now, c.in-Some.row.now) c.in-Some.ensures.steps c.loop-id.invariant) c.in_ok-write_row.ensures
 
 pub returns-in_err-write_row : goal.returns-in_err-write_row
 returns-in_err-write_row g c =
     let whole = lines_of_rows c.args.format c.args.rows.now.entries in
-    let e = (c.in-Some.id.now, c.in-Some.row.now) in
     let p = err_from_is_err_and c.from_residual.result c.from_residual.ensures.1 in
     rw (p.1, p.2)
-    (goes_wrong whole c.args.printer.now (row_as c.args.format (block_tally e)) (lines_of_rows c.args.format c.next.new.self) c.loop-id.printer c.write_row.new.printer c.in_err-write_row.field-0.0
-    (next_row c.args.format whole c.args.printer.now c.loop-id.printer c.loop-id.id-iterator c.next.new.self e c.in-Some.ensures.goes c.loop-id.invariant) c.in_err-write_row.ensures)
+    (goes_wrong whole c.args.printer.now (row_as c.args.format (block_tally (c.in-Some.id.now, c.in-Some.row.now))) (lines_of_rows c.args.format c.next.new.self) c.loop-id.printer c.write_row.new.printer c.in_err-write_row.field-0.0
+    (next_row c.args.format whole c.args.printer.now c.loop-id.printer c.loop-id.id-iterator c.next.new.self (c.in-Some.id.now, c.in-Some.row.now) c.in-Some.ensures.steps c.loop-id.invariant) c.in_err-write_row.ensures)
