@@ -1,5 +1,4 @@
 use Rattle.std.proofs.Common.{[]}
-use Rattle.bit_scan.proofs.Changing.{key_at}
 use Rattle.bit_scan.proofs.rows.BlockRows.pass.Goals as goal
 
 pub returns-then-not-is_at : goal.returns-then-not-is_at
