@@ -152,7 +152,7 @@ fields_reads n count bits a b all there is =
 -- ---- whole bytes
 
 -- the numbers of eight bits in the bits of bytes are the bytes
-byte_numbers : (bytes others : List ℕ) (rest : List Bool) → ((k : ℕ) → get_or (bytes ++ others) k 0 < 256) → numbers 8 (length bytes) (bits_of_bytes bytes ++ rest) ≡ bytes
+pub byte_numbers : (bytes others : List ℕ) (rest : List Bool) → ((k : ℕ) → get_or (bytes ++ others) k 0 < 256) → numbers 8 (length bytes) (bits_of_bytes bytes ++ rest) ≡ bytes
 byte_numbers [] others rest small = refl
 byte_numbers (b ∷ bytes) others rest small =
     let after : List Bool = bits_of_bytes bytes ++ rest in

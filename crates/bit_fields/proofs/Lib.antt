@@ -36,6 +36,7 @@ pub mod LongSixes
 pub mod SixSteps
 pub mod PlainRecords
 pub mod PlainPlaces
+pub mod PlacedFields
 pub mod PlacedNumbers
 pub mod LastChunks
 pub mod ByteTables

@@ -229,23 +229,34 @@ impl<'a> PlacedBits<'a> {
         ensures has { IfSome result (λ len. HasNumbers chunks.bits count (placed self.entry) len) }
         ensures more { IfSome result (λ len. len + more ≤ length (placed self.entry).bits) }
     {
+        let (some, after) = self.some_of(chunks, count);
+        if some < count || !after.has(more) {
+            return None;
+        }
+        Some(after.position() - self.position())
+    }
+
+    /// Passes over numbers in chunks of any width, as long as 64 bits are there, at most `most`. Returns how many, and the bits behind.
+    #[inline(always)]
+    pub fn some_of(self, chunks: ChunkTops, most: u64) -> (u64, PlacedBits<'a>)
+        ensures most { result.0 ≤ most }
+        ensures has { (len : ℕ) × HasNumbers chunks.bits result.0 (placed self.entry) len
+            × (placed result.1 ≡ beyond (placed self.entry) len) }
+    {
         let mut bits = self;
-        let mut left = count;
-        while left > 0 {
-            if !bits.has(64) {
-                return None;
-            }
+        let mut left = most;
+        while left > 0 && bits.has(64) {
             let len = match bits.load().few(chunks, 1) {
                 Some(len) => len,
-                None => bits.long(chunks.bits)?,
+                None => match bits.long(chunks.bits) {
+                    Some(len) => len,
+                    None => break,
+                },
             };
             left -= 1;
             bits = bits.after(len);
         }
-        if !bits.has(more) {
-            return None;
-        }
-        Some(bits.at - self.at)
+        (most - left, bits)
     }
 }
 
@@ -265,7 +276,7 @@ fn ends_from(bytes: &[u8], place: usize, shift: u64) -> u64
 ///
 /// Each load is eight chunks behind the last one, wherever numbers end, so that it need not wait for that one.
 #[inline(never)]
-fn pass_sixes(bytes: &[u8], from: u64, count: u64) -> (u64, u64)
+pub(crate) fn pass_sixes(bytes: &[u8], from: u64, count: u64) -> (u64, u64)
     requires there { from ≤ 8 * length bytes.now }
     requires fits { 8 * length bytes.now < 2 ^ 64 }
     ensures on { from ≤ result.0 }
