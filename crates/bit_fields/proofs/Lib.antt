@@ -1,6 +1,7 @@
 pub mod BitLaws
 pub mod Words
 pub mod InflowLaws
+pub mod Asking
 pub mod Keeping
 pub mod Fronts
 pub mod Shortening

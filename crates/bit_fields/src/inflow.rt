@@ -1,12 +1,13 @@
-ghost use Rattle.std.specs.Prelude.{ℕ, ◌≡◌, ◌+◌, ◌*◌, ◌-◌, ◌<◌, ◌≤◌, ◌^◌, length, true, false, take, drop, [], OnOk, IfOk};
-ghost use Rattle.bit_grammar.specs.Bits.{number, bits_of};
-ghost use Rattle.bit_fields.specs.Inflow.{Brings, Misses, Fills, StepsBytes, SkipsSome, Drains, DrainsSome, LooksOn, LooksOver, LiesBehind, stop_of, flow_ended_at, to_drain};
+ghost use Rattle.std.specs.Prelude.{ℕ, ◌≡◌, ◌+◌, ◌*◌, ◌-◌, ◌<◌, ◌≤◌, ◌^◌, ◌⊎◌, length, true, false, take, drop, [], OnOk, IfOk, IfSome, IfNone, Err};
+ghost use Rattle.bit_grammar.specs.Bits.{number};
+ghost use Rattle.bit_fields.specs.Inflow.{IsFlow, KeepsFlow, LooksOn, Shows, Advances, TakesBits, Lacks, Drops, Asks, TakesLate, Waits, SkipsSome, Shortens, Copies, HandsOver, Drains, stop_of, taken_of, place_of, carried_of, there_of, budget_of, to_ask};
+ghost use Rattle.bit_fields.specs.PlacedView.{placed};
 ghost use Rattle.std.specs.Borrow.{sem};
-ghost use Rattle.bit_fields.specs.Devices.{IsFresh};
+ghost use Rattle.bit_fields.specs.Devices.{Looked, Fails, Spends};
 ghost use Rattle.std.specs.Io.BufRead.{Rests};
 
-use crate::source::{SliceSource, Source, SourceFailed, pull_word};
-use crate::window::Window;
+use crate::placed::PlacedBits;
+use crate::source::{Source, SourceFailed};
 use std::marker::Model;
 
 /// Why bits are missing.
@@ -20,39 +21,74 @@ pub enum Missing {
     Read,
 }
 
-/// A source with a window over its next bits, up to a limit on bytes.
+/// How many bytes the carry has room for.
+const CARRY: usize = 64;
+
+/// A source and a place in what it has buffered, up to a limit on bytes.
+///
+/// Bits are read where the source lends them, and bytes are taken from it once the next field is not there. The carry then has what
+/// is left of them, and what a source gave that lends none.
 #[derive(Drop)]
 pub struct Inflow<S: Source> {
-    window: Window,
     source: S,
-    loaded: u64,
+    /// How many bytes of the stream behind the carry the source lends.
+    lent: usize,
+    /// How many bytes the carry has. If it has none, bits are read where the source lends them.
+    held: usize,
+    /// How many bits are read of these bytes.
+    at: u64,
+    /// How many bytes of the input come before them.
+    before: u64,
+    carry: [u8; CARRY],
     end: u64,
     limit: u64,
     ended: bool,
 }
 
 impl<S: Source> Model for Inflow<S> {
-    ghost use Rattle.bit_fields.specs.Inflow.{Flow, IsFlow};
+    ghost use Rattle.std.specs.Prelude.{take, ◌≤◌};
+    ghost use Rattle.bit_fields.specs.Inflow.{Flow, IsFlow, lending};
 
     ghost Value = { Flow };
 
     ghost view = { λ f. record {
-      window = f.window;
-      incoming = S.incoming f.source;
-      loaded = f.loaded;
+      carry = take f.held f.carry;
+      incoming = lending f.lent (S.incoming f.source);
+      lent = f.lent;
+      at = f.at;
+      before = f.before;
       end = f.end;
       limit = f.limit;
       ended = f.ended;
     } };
 
     ghost invariant = { λ f. IsFlow (record {
-      window = f.window;
-      incoming = S.incoming f.source;
-      loaded = f.loaded;
+      carry = take f.held f.carry;
+      incoming = lending f.lent (S.incoming f.source);
+      lent = f.lent;
+      at = f.at;
+      before = f.before;
       end = f.end;
       limit = f.limit;
       ended = f.ended;
-    }) };
+    }) × (f.held ≤ 64) };
+}
+
+/// Copies bytes that are lent, at most `most`, into a carry behind the `held` bytes that it has, and returns how many.
+fn copy_lent<S: Source>(source: &mut S, most: usize, carry: &mut [u8; CARRY], held: usize) -> usize
+    requires { held ≤ 64 }
+    ensures looked { Looked (S.incoming source.old) (S.incoming source.new) }
+    ensures most { result ≤ most }
+    ensures room { held + result ≤ 64 }
+    ensures copies { Copies (S.incoming source.old).to_come held result carry.old carry.new }
+{
+    if most == 0 {
+        return 0;
+    }
+    let bytes = source.lend();
+    let count = bytes.len().min(most).min(CARRY - held);
+    carry[held..held + count].copy_from_slice(&bytes[..count]);
+    count
 }
 
 impl<S: Source> Inflow<S> {
@@ -62,265 +98,359 @@ impl<S: Source> Inflow<S> {
     pub fn new(source: S, limit: u64) -> Inflow<S>
         requires { limit < 2 ^ 35 }
         ensures { result ≡ record {
-          window = [];
+          carry = [];
           incoming = S.incoming source;
-          loaded = 0;
+          lent = 0;
+          at = 0;
+          before = 0;
           end = u64.MAX;
           limit = limit;
           ended = false;
         } }
     {
         Inflow {
-            window: Window::new(),
             source,
-            loaded: 0,
+            lent: 0,
+            held: 0,
+            at: 0,
+            before: 0,
+            carry: [0; CARRY],
             end: u64::MAX,
             limit,
             ended: false,
         }
     }
 
+    /// States the invariant.
+    #[inline(always)]
+    pub fn is_flow(&self)
+        ensures { IsFlow self.now }
+    {
+        let _at = self.at;
+    }
+
     /// Returns the source in its present state.
-    pub fn into_source(self) -> S
-        ensures { S.incoming result ≡ self.incoming }
+    pub fn release(self) -> S
+        ensures { Spends self.incoming 0 (S.incoming result) 0 }
     {
         self.source
     }
 
-    /// How many bits are in the window.
-    pub fn bits_held(&self) -> u32
-        ensures held { result ≡ length self.now.window }
-        ensures most { result ≤ 64 }
+    /// Returns the source without the bytes of which all bits are read, unless it fails.
+    pub fn into_source(self) -> S
+        ensures { HandsOver self (S.incoming result)
+            ⊎ Fails self.incoming (budget_of self) (S.incoming result) 0 }
     {
-        self.window.len()
+        let mut inflow = self;
+        while inflow.held == 0 && inflow.at >= 8 && !inflow.ended {
+            if inflow.pass_read().is_err() {
+                break;
+            }
+        }
+        inflow.source
+    }
+
+    /// At which byte the stream ends, or the limit.
+    #[inline(always)]
+    fn stop(&self) -> u64
+        ensures { result ≡ stop_of self.now }
+    {
+        self.end.min(self.limit)
+    }
+
+    /// How many bytes were taken from the source.
+    #[inline(always)]
+    fn taken(&self) -> u64
+        ensures { result ≡ taken_of self.now }
+    {
+        self.before + self.held as u64
+    }
+
+    /// The bits that are there, possibly none. The source is asked for nothing.
+    #[inline(always)]
+    pub fn bits(&mut self) -> PlacedBits<'_>
+        ensures* shows { sem 𝓛 (Rests (the_row S.row S.Source) self.entry
+            (λ new. Shows self.old (placed result) new)) }
+    {
+        if self.held > 0 || 8 * self.lent as u64 <= self.at {
+            return self.joined();
+        }
+        let (start, at, lent) = (8 * self.before, self.at, self.lent);
+        let bytes = self.source.lend();
+        PlacedBits::at_most(&bytes[..lent.min(bytes.len())], start, at)
+    }
+
+    /// The bits in the carry, and some behind them that are lent.
+    #[inline(never)]
+    fn joined(&mut self) -> PlacedBits<'_>
+        ensures* shows { sem 𝓛 (Rests (the_row S.row S.Source) self.entry
+            (λ new. Shows self.old (placed result) new)) }
+    {
+        let room = (self.end.min(self.limit) - self.before) as usize;
+        let count = copy_lent(&mut self.source, self.lent, &mut self.carry, self.held);
+        let filled = room.min(self.held + count);
+        PlacedBits::at_most(&self.carry[..filled], 8 * self.before, self.at)
+    }
+
+    /// Takes the number of the first n bits, if they are there.
+    #[inline(always)]
+    pub fn take(&mut self, n: u32) -> Option<u64>
+        requires { n ≤ 32 }
+        ensures some { IfSome result (λ value. TakesBits n value self.old self.new) }
+        ensures below { IfSome result (λ value. value < 2 ^ n) }
+        ensures none { IfNone result (Lacks n self.old self.new) }
+    {
+        let value = self.bits().part(n)?;
+        self.advance(u64::from(n));
+        Some(value)
+    }
+
+    /// Moves on by bits that are there.
+    #[inline(always)]
+    pub fn advance(&mut self, bits: u64)
+        requires { bits ≤ there_of self.old }
+        ensures { Advances bits self.old self.new }
+    {
+        self.at += bits;
+        if self.held > 0 && self.at >= 8 * self.held as u64 {
+            self.at -= 8 * self.held as u64;
+            self.before += self.held as u64;
+            self.held = 0;
+        }
+    }
+
+    /// Asks the source for more bytes, since those that are there do not suffice: once, or less if some that it lends are not taken.
+    fn ask(&mut self) -> Result<(), Missing>
+        requires { carried_of self.old < 32 }
+        ensures asks { Asks self.old self.new result }
+        ensures fewer { OnOk result (to_ask self.new < to_ask self.old) }
+    {
+        if self.ended {
+            return Err(Missing::End);
+        }
+        if self.held == 0 && self.at >= 8 {
+            return self.pass_read();
+        }
+        self.drop_read();
+        if self.lent > 0 {
+            return self.take_lent();
+        }
+        if self.taken() >= self.stop() {
+            return Err(self.past());
+        }
+        self.more()
+    }
+
+    /// Takes bytes that are lent and of which all bits are read.
+    fn pass_read(&mut self) -> Result<(), Missing>
+        requires empty { self.old.carry ≡ [] }
+        requires some { 8 ≤ self.old.at }
+        requires going { self.old.ended ≡ false }
+        ensures asks { Asks self.old self.new result }
+        ensures fewer { OnOk result (to_ask self.new < to_ask self.old) }
+    {
+        let whole = (self.at / 8) as usize;
+        let mut count = match self.source.pass(whole) {
+            Ok(count) => count,
+            Err(SourceFailed) => return Err(Missing::Read),
+        };
+        if count == 0 {
+            self.ended = true; // though it has lent them
+            count = whole;
+        }
+        self.lent -= count;
+        self.before += count as u64;
+        self.at -= 8 * count as u64;
+        Ok(())
+    }
+
+    /// Drops the bytes of the carry of which all bits are read.
+    fn drop_read(&mut self)
+        requires { self.old.carry ≡ [] → self.old.at < 8 }
+        ensures { Drops self.old self.new }
+    {
+        let whole = (self.at / 8) as usize;
+        if whole == 0 {
+            return;
+        }
+        let mut rest = [0; CARRY];
+        let left = self.held - whole;
+        rest[..left].copy_from_slice(&self.carry[whole..self.held]);
+        self.carry = rest;
+        self.held = left;
+        self.before += whole as u64;
+        self.at -= 8 * whole as u64;
+    }
+
+    /// Takes bytes that are lent into the carry; or pulls some, if they are lent no more.
+    fn take_lent(&mut self) -> Result<(), Missing>
+        requires few { length self.old.carry ≤ 8 }
+        requires low { self.old.at < 8 }
+        requires some { 0 < self.old.lent }
+        requires going { self.old.ended ≡ false }
+        ensures asks { Asks self.old self.new result }
+        ensures fewer { OnOk result (to_ask self.new < to_ask self.old) }
+    {
+        let copied = copy_lent(&mut self.source, self.lent, &mut self.carry, self.held);
+        if copied == 0 {
+            return self.pull();
+        }
+        let mut count = match self.source.pass(copied) {
+            Ok(count) => count,
+            Err(SourceFailed) => return Err(Missing::Read),
+        };
+        if count == 0 {
+            self.ended = true; // though it has lent them
+            count = copied;
+        }
+        self.held += count;
+        self.lent -= count;
+        Ok(())
+    }
+
+    /// Looks for bytes that are lent, and pulls some if there are none.
+    fn more(&mut self) -> Result<(), Missing>
+        requires few { length self.old.carry ≤ 8 }
+        requires low { self.old.at < 8 }
+        requires none { self.old.lent ≡ 0 }
+        requires some { taken_of self.old < stop_of self.old }
+        requires going { self.old.ended ≡ false }
+        ensures asks { Asks self.old self.new result }
+        ensures fewer { OnOk result (to_ask self.new < to_ask self.old) }
+    {
+        match self.source.look() {
+            Ok(false) => return self.pull(),
+            Ok(true) => {}
+            Err(SourceFailed) => return Err(Missing::Read),
+        }
+        let room = self.end.min(self.limit) - (self.before + self.held as u64);
+        self.lent = self.source.lend().len().min(room as usize);
+        if self.lent == 0 {
+            return self.pull();
+        }
+        Ok(())
+    }
+
+    /// Pulls bytes of the stream into the carry.
+    fn pull(&mut self) -> Result<(), Missing>
+        requires few { length self.old.carry ≤ 8 }
+        requires low { self.old.at < 8 }
+        requires some { taken_of self.old < stop_of self.old }
+        requires going { self.old.ended ≡ false }
+        ensures asks { Asks self.old self.new result }
+        ensures fewer { OnOk result (to_ask self.new < to_ask self.old) }
+    {
+        let room = self.end.min(self.limit) - (self.before + self.held as u64);
+        let most = CARRY.min(self.held + room as usize);
+        match self.source.pull(&mut self.carry[self.held..most]) {
+            Ok(0) => {
+                self.ended = true; // and is not asked again
+                Err(Missing::End)
+            }
+            Ok(count) => {
+                self.held += count;
+                self.lent = self.lent.saturating_sub(count);
+                Ok(())
+            }
+            Err(SourceFailed) => Err(Missing::Read),
+        }
     }
 
     /// At the limit on bytes, or at the end that a wrapper named: whether the input goes on past the limit.
-    #[cold]
-    #[inline(never)]
     fn past(&mut self) -> Missing
+        requires few { length self.old.carry ≤ 8 }
+        requires low { self.old.at < 8 }
+        requires none { self.old.lent ≡ 0 }
+        requires stop { stop_of self.old ≤ taken_of self.old }
         requires going { self.old.ended ≡ false }
-        requires stop { stop_of self.old ≤ self.old.loaded }
-        ensures { Misses self.old self.new result }
+        ensures { Asks self.old self.new (Err result) }
     {
         if self.end <= self.limit {
             return Missing::End;
         }
-        if self.loaded > self.limit {
+        if self.before + self.held as u64 > self.limit {
             return Missing::Limit;
         }
-        match self.source.pull(&mut [0]) {
+        match self.source.pull(&mut self.carry[self.held..self.held + 1]) {
             Ok(0) => {
                 self.ended = true;
                 Missing::End
             }
             Ok(_) => {
-                self.loaded += 1;
+                self.held += 1;
                 Missing::Limit
             }
             Err(SourceFailed) => Missing::Read,
         }
     }
 
-    /// Loads as many bytes into the window as it has room for.
-    #[inline(always)]
-    fn more(&mut self) -> Result<(), Missing>
-        requires { length self.old.window ≤ 56 }
-        ensures { Brings self.old self.new result }
-    {
-        if self.ended {
-            return Err(Missing::End);
-        }
-        let stop = self.end.min(self.limit);
-        if self.loaded >= stop {
-            return Err(self.past());
-        }
-        let room = u64::from((64 - self.window.len()) / 8).min(stop - self.loaded) as usize;
-        match pull_word(&mut self.source, room) {
-            Ok((_, 0)) => {
-                self.ended = true; // and is not pulled again
-                Err(Missing::End)
-            }
-            Ok((word, count)) => {
-                self.window.push(word, 8 * count as u32);
-                self.loaded += count as u64;
-                Ok(())
-            }
-            Err(SourceFailed) => Err(Missing::Read),
-        }
-    }
-
-    /// Makes sure that n bits are in the window. It is kept out of its callers, so that they take few instructions if the bits are
-    /// there, and its result fits a register.
+    /// Takes the number of the first n bits, and asks the source while they are not there.
+    #[cold]
     #[inline(never)]
-    pub fn fill(&mut self, n: u32) -> Result<(), Missing>
-        requires { n ≤ 57 }
-        ensures { Fills n self.old self.new result }
+    pub fn take_late(&mut self, n: u32) -> Result<u64, Missing>
+        requires { n ≤ 32 }
+        ensures takes { TakesLate n self.old self.new result }
+        ensures below { IfOk result (λ value. value < 2 ^ n) }
     {
-        while self.window.len() < n {
-            self.more()?;
-        }
-        Ok(())
-    }
-
-    /// Takes the number of the first n bits.
-    pub fn take(&mut self, n: u32) -> u64
-        requires few { n ≤ 32 }
-        requires there { n ≤ length self.old.window }
-        ensures value { result ≡ number (take n self.old.window) }
-        ensures rest { self.new ≡ record self.old { window = drop n self.old.window } }
-        ensures loaded { self.old.loaded ≤ 2 ^ 35 }
-        ensures below { result < 2 ^ n }
-    {
-        self.window.take(n)
-    }
-
-    /// The number of the first n bits.
-    pub fn peek(&self, n: u32) -> u64
-        requires few { n ≤ 32 }
-        requires there { n ≤ length self.now.window }
-        ensures { result ≡ number (take n self.now.window) }
-    {
-        self.window.peek(n)
-    }
-
-    /// The word of the bits in the window, and how many bits it has.
-    #[inline(always)]
-    pub fn window(&self) -> (u64, u32)
-        ensures bits { bits_of result.1 result.0 ≡ self.now.window }
-        ensures below { result.0 < 2 ^ result.1 }
-        ensures most { result.1 ≤ 64 }
-        ensures loaded { self.now.loaded ≤ 2 ^ 35 }
-    {
-        self.window.parts()
-    }
-
-    /// Looks for buffered bytes of the stream after the window, and takes none. Returns whether `lend` has any to lend. Fails only
-    /// if the source does.
-    #[inline(always)]
-    pub fn look(&mut self) -> Result<bool, SourceFailed>
-        ensures looks { LooksOver self.old result self.new }
-        ensures fresh { IfOk result (λ some. some ≡ true → IsFresh self.new.incoming) }
-    {
-        if self.ended || self.loaded >= self.end.min(self.limit) {
-            return Ok(false);
-        }
-        self.source.look()
-    }
-
-    /// Lends buffered bytes of the stream after the window, possibly none.
-    #[inline(always)]
-    pub fn lend(&mut self) -> &[u8]
-        requires { IsFresh self.old.incoming }
-        ensures front { LiesBehind self.old result.now }
-        ensures few { length result.now ≤ 2 ^ 35 }
-        ensures* rests { sem 𝓛 (Rests (the_row S.row S.Source) self.entry
-            (λ new. LooksOn self.old new)) }
-    {
-        if self.ended {
-            return &[];
-        }
-        let room = self.end.min(self.limit).saturating_sub(self.loaded) as usize;
-        let bytes = self.source.lend();
-        &bytes[..room.min(bytes.len())]
-    }
-
-    /// Drops the bits that are in the window.
-    pub fn clear(&mut self)
-        ensures { self.new ≡ record self.old { window = [] } }
-    {
-        self.window = Window::new();
-    }
-
-    /// Ends the stream at a byte.
-    pub fn shorten(&mut self, end: u64)
-        requires { end < 2 ^ 60 }
-        ensures shortened { self.new ≡ flow_ended_at self.old end }
-        ensures limit { self.old.limit < 2 ^ 35 }
-    {
-        let over = 8 * self.loaded.min(self.limit).saturating_sub(end);
-        if over > 0 {
-            let kept = u64::from(self.window.len()).saturating_sub(over) as u32;
-            self.window.keep(kept);
-        }
-        self.end = end;
-    }
-
-    /// Skips bytes of the stream, at most `most`, and returns how many.
-    pub fn pass(&mut self, most: u64) -> Result<u64, Missing>
-        requires some { 0 < most }
-        requires empty { self.old.window ≡ [] }
-        ensures { StepsBytes most self.old self.new result }
-    {
-        if self.ended {
-            return Err(Missing::End);
-        }
-        let stop = self.end.min(self.limit);
-        if self.loaded >= stop {
-            return Err(self.past());
-        }
-        let room = most.min(stop - self.loaded) as usize;
-        match self.source.pass(room) {
-            Ok(0) => {
-                self.ended = true;
-                Err(Missing::End)
+        loop {
+            if let Some(value) = self.take(n) {
+                return Ok(value);
             }
-            Ok(count) => {
-                self.loaded += count as u64;
-                Ok(count as u64)
-            }
-            Err(SourceFailed) => Err(Missing::Read),
+            self.ask()?;
         }
     }
 
-    /// Skips bits of the stream, at least one and at most `most`, and returns how many: those in the window, or else a block of
-    /// bytes.
+    /// Waits until a bit is there, and returns how many are.
+    pub fn wait(&mut self) -> Result<u64, Missing>
+        ensures { Waits self.old self.new result }
+    {
+        loop {
+            let count = self.bits().len();
+            if count > 0 {
+                return Ok(count);
+            }
+            self.ask()?;
+        }
+    }
+
+    /// Skips bits of the stream, at least one and at most `most`, and returns how many.
     pub fn skip(&mut self, most: u64) -> Result<u64, Missing>
         requires { 0 < most }
         ensures skips { SkipsSome most self.old self.new result }
-        ensures loaded { OnOk result (self.new.loaded ≤ 2 ^ 35) }
     {
-        if self.window.len() == 0 {
-            if most >= 8 {
-                let count = self.pass(most / 8)?;
-                return Ok(8 * count);
-            }
-            self.fill(1)?;
-        }
-        let count = most.min(u64::from(self.window.len()));
-        self.window.skip(count as u32);
+        let count = self.wait()?.min(most);
+        self.advance(count);
         Ok(count)
     }
 
-    /// Takes some of the bytes that the source still has.
-    fn drain_some(&mut self) -> Result<(), Missing>
-        requires { self.old.ended ≡ false }
-        ensures drains { DrainsSome self.old self.new result }
-        ensures fewer { OnOk result (to_drain self.new < to_drain self.old) }
+    /// Ends the stream at a byte, no earlier than its next bit.
+    pub fn shorten(&mut self, end: u64)
+        requires most { end < 2 ^ 60 }
+        requires least { place_of self.old ≤ 8 * end }
+        ensures shortens { Shortens end self.old self.new }
+        ensures limit { self.old.limit < 2 ^ 35 }
     {
-        if self.loaded > self.limit {
-            return Err(Missing::Limit);
-        }
-        let room = (self.limit + 1 - self.loaded) as usize;
-        match self.source.pass(room) {
-            Ok(0) => {
-                self.ended = true;
-                Ok(())
-            }
-            Ok(count) => {
-                self.loaded += count as u64;
-                Ok(())
-            }
-            Err(SourceFailed) => Err(Missing::Read), // nothing is asked after a failure
-        }
+        self.end = end;
+        let room = self.end.min(self.limit).saturating_sub(self.before + self.held as u64);
+        self.lent = self.lent.min(room as usize);
     }
 
-    /// Takes all bytes that the source still has.
+    /// Takes all bytes that the source still has. Nothing is read any more.
     pub fn drain(&mut self) -> Result<(), Missing>
         ensures { Drains self.old self.new result }
     {
+        let mut taken = self.before + self.held as u64;
+        self.lent = 0;
+        self.at = 0;
         while !self.ended {
-            self.drain_some()?;
+            if taken > self.limit {
+                return Err(Missing::Limit);
+            }
+            match self.source.pass((self.limit + 1 - taken) as usize) {
+                Ok(0) => self.ended = true,
+                Ok(count) => taken += count as u64,
+                Err(SourceFailed) => return Err(Missing::Read), // nothing is asked after a failure
+            }
         }
         Ok(())
     }
@@ -338,21 +468,5 @@ impl<S: Source> Inflow<S> {
         ensures most { result < 2 ^ 35 }
     {
         self.limit
-    }
-}
-
-impl<'a> Inflow<SliceSource<'a>> {
-    /// The buffered bytes of the stream after the window, possibly none. They are lent for as long as the slice lives.
-    #[inline(always)]
-    pub fn slice(&self) -> &'a [u8]
-        ensures front { LiesBehind self.now result.now }
-        ensures few { length result.now ≤ 2 ^ 35 }
-    {
-        if self.ended {
-            return &[];
-        }
-        let room = self.end.min(self.limit).saturating_sub(self.loaded) as usize;
-        let bytes = self.source.rest();
-        &bytes[..room.min(bytes.len())]
     }
 }

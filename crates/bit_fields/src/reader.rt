@@ -1,23 +1,24 @@
-ghost use Rattle.std.specs.Prelude.{◌≡◌, ◌+◌, ◌*◌, ◌-◌, ◌<◌, ◌≤◌, ◌^◌, ◌%◌, length, true, false, take, OnErr, OnOk, IfOk, IfErr, IfSome, MatchOption};
+ghost use Rattle.std.specs.Prelude.{◌≡◌, ◌+◌, ◌*◌, ◌-◌, ◌<◌, ◌≤◌, ◌^◌, ◌%◌, length, true, false, take, OnErr, OnOk, IfOk, IfErr, IfSome, MatchOption, ◌⊎◌};
 ghost use Rattle.bit_grammar.specs.Fields.{fixed, vbr, align32, chunks, zeros};
 ghost use Rattle.bit_grammar.specs.Terms.{chunk_limit};
 ghost use Rattle.bit_grammar.specs.Grammar.{at, test};
-ghost use Rattle.bit_grammar.specs.Bits.{bits_of};
-ghost use Rattle.bit_fields.specs.Buffered.{Sees};
+ghost use Rattle.std.specs.Borrow.{sem};
+ghost use Rattle.std.specs.Io.BufRead.{Rests};
+ghost use Rattle.bit_fields.specs.Buffered.{ShowsBits, reader_further};
+ghost use Rattle.bit_fields.specs.Devices.{Fails};
+ghost use Rattle.bit_fields.specs.PlacedView.{placed};
 ghost use Rattle.bit_grammar.specs.Input.{version, offset, wrapper, any_bits, inner_magic};
-ghost use Rattle.bit_fields.specs.Reader.{Extent, Takes, Took, Why, IsOnly, NeedsNoMemory, within, told_by, failed_reader, stopped_at};
-ghost use Rattle.bit_fields.specs.Short.{TookNothing};
+ghost use Rattle.bit_fields.specs.Reader.{Extent, EndsAfter, Returned, TellsBytes, Takes, Took, Why, IsOnly, NeedsNoMemory, within, told_by, failed_reader, stopped_at};
 ghost use Rattle.bit_fields.specs.Opening.{fresh, OpenedInput, Declines, Opens, wrapper_told};
 ghost use Rattle.bit_fields.specs.Ending.{reach_of, LooksForEnd, Closes, IsThrough};
-ghost use Rattle.bit_fields.specs.Inside.{part_of, number_above, fault_of_missing, TookZeros};
-
-mod buffered_parts;
+ghost use Rattle.bit_fields.specs.Inside.{gap_of, part_of, number_above, fault_of_missing, TookGap, TookZeros};
 
 use crate::fault::Fault;
 use crate::head::{Head, Wrapper};
 use crate::inflow::{Inflow, Missing};
 use crate::limits::Limits;
 use crate::numbers::{is_lawful, payload_of, worth_at};
+use crate::placed::PlacedBits;
 use crate::source::Source;
 use crate::width::ChunkWidth;
 use bit_grammar::{Reason, WRAPPER_MAGIC};
@@ -46,6 +47,8 @@ impl<S: Source> Model for BitReader<S> {
 }
 
 impl<S: Source> BitReader<S> {
+    ghost use Rattle.bit_fields.specs.contracts.reader.BitReader.{the_row};
+
     /// Begins the stream of a source: reads its wrapper, if there is one, and the magic of the stream, and returns them as the
     /// head. The reader is then after the magic, at a multiple of 32 bits. Sources: "Magic Numbers", "Bitcode Wrapper Format".
     ///
@@ -154,7 +157,7 @@ impl<S: Source> BitReader<S> {
         ensures memory { NeedsNoMemory result }
         ensures place { OnOk result (self.new.position ≡ 8 * offset) }
     {
-        self.catch_up(8 * u64::from(offset - 20))
+        self.skip(8 * u64::from(offset - 20))
     }
 
     /// Ends the stream `size` bytes after the byte at `offset`, which is the reader's position.
@@ -162,10 +165,7 @@ impl<S: Source> BitReader<S> {
         requires live { self.old.live ≡ true }
         requires position { self.old.position ≡ 8 * offset }
         requires end { self.old.extent.end ≡ 2 ^ 64 - 1 }
-        ensures { self.new ≡ record self.old {
-          left = take (8 * size) self.old.left;
-          extent = record self.old.extent { end = offset + size };
-        } }
+        ensures { EndsAfter (offset + size) (8 * size) self.old self.new }
     {
         self.inflow.shorten(u64::from(offset) + u64::from(size));
     }
@@ -202,19 +202,26 @@ impl<S: Source> BitReader<S> {
         Err(self.fail(Fault::Refused { reason, bit }))
     }
 
-    /// Returns the source in its present state.
+    /// Returns the source. Unless the reader has failed, the bytes of which it read all bits are taken from it first, and then it may
+    /// fail.
     pub fn into_source(self) -> S
-        ensures { S.incoming result ≡ self.incoming }
+        ensures { Returned self (S.incoming result)
+            ⊎ ((self.live ≡ true) × Fails self.incoming self.budget (S.incoming result) 0) }
     {
-        self.inflow.into_source()
+        if self.live {
+            self.inflow.into_source()
+        } else {
+            self.inflow.release()
+        }
     }
 
     /// The bit at which the unread input begins, counted from the first bit of the input.
     pub fn position(&self) -> u64
         ensures position { result ≡ self.now.position }
-        ensures reach { self.now.live ≡ true → result + length self.now.left
-            ≡ reach_of self.now.extent }
+        ensures reach { self.now.live ≡ true → TellsBytes self.now
+            → result + length self.now.left ≡ reach_of self.now.extent }
     {
+        self.inflow.is_flow();
         self.position
     }
 
@@ -235,7 +242,6 @@ impl<S: Source> BitReader<S> {
     {
         self.live = false;
         self.position = first;
-        self.inflow.clear();
     }
 
     /// Fails because bits of a field that began at `first` are missing.
@@ -278,32 +284,107 @@ impl<S: Source> BitReader<S> {
         ensures stays { self.old.live ≡ true → OnErr result (self.new.position ≡ first) }
         ensures moves { OnOk result (self.new.position ≡ self.old.position + n) }
     {
-        if self.inflow.bits_held() < n {
-            if !self.live {
-                return Err(Fault::Failed);
-            }
-            match self.inflow.fill(n) {
-                Ok(()) => {}
-                Err(missing) => return Err(self.miss(missing, first)),
-            }
+        if !self.live {
+            return Err(Fault::Failed);
         }
-        let value = self.inflow.take(n);
-        self.position += u64::from(n);
-        Ok(value)
+        match self.inflow.take(n) {
+            Some(value) => {
+                self.position += u64::from(n);
+                Ok(value)
+            }
+            None => self.late_part(n, first),
+        }
     }
 
-    /// The next n bits as a number, n from 1 to 32, if the reader holds them already: it asks its source for nothing.
-    #[inline(always)]
-    pub fn peek(&self, n: u32) -> Option<u64>
+    /// The same, if not all of the bits are there.
+    #[cold]
+    #[inline(never)]
+    fn late_part(&mut self, n: u32, first: u64) -> Result<u64, Fault>
+        requires live { self.old.live ≡ true }
         requires some { 0 < n }
         requires few { n ≤ 32 }
-        ensures { IfSome result (λ value. Sees self.now
-            (record { position = self.now.position; bits = bits_of n value })) }
+        ensures takes { Takes (part_of first n) self.old result self.new }
+        ensures memory { NeedsNoMemory result }
+        ensures below { IfOk result (λ value. value < 2 ^ n) }
+        ensures stays { OnErr result (self.new.position ≡ first) }
+        ensures moves { OnOk result (self.new.position ≡ self.old.position + n) }
     {
-        if self.inflow.bits_held() < n {
-            return None;
+        match self.inflow.take_late(n) {
+            Ok(value) => {
+                self.position += u64::from(n);
+                Ok(value)
+            }
+            Err(missing) => Err(self.miss(missing, first)),
         }
-        Some(self.inflow.peek(n))
+    }
+
+    /// The bits that are there, possibly none. The source is asked for nothing.
+    #[inline(always)]
+    pub fn bits(&mut self) -> PlacedBits<'_>
+        ensures* shows { sem 𝓛 (Rests (the_row S.row S.Source) self.entry
+            (λ new. ShowsBits self.old (placed result) new)) }
+    {
+        if self.live {
+            self.inflow.bits()
+        } else {
+            PlacedBits::none(self.position)
+        }
+    }
+
+    /// Moves on by bits that are there. The source is asked for nothing.
+    #[inline(always)]
+    pub fn catch_up(&mut self, bits: u64)
+        requires { bits ≤ self.old.there }
+        ensures { self.new ≡ reader_further self.old bits }
+    {
+        if self.live {
+            self.inflow.advance(bits);
+            self.position += bits;
+        }
+    }
+
+    /// Skips `bits` bits, whatever they are.
+    ///
+    /// Fewer bits are `Truncated` at the first of them.
+    fn skip(&mut self, bits: u64) -> Result<(), Fault>
+        ensures takes { Takes (any_bits bits) self.old result self.new }
+        ensures memory { NeedsNoMemory result }
+        ensures stays { OnErr result (self.new.position ≡ self.old.position) }
+        ensures moves { OnOk result (self.new.position ≡ self.old.position + bits) }
+    {
+        if !self.live {
+            return Err(Fault::Failed);
+        }
+        let first = self.position;
+        let mut left = bits;
+        while left > 0 {
+            let count = self.skip_some(first, first, left)?;
+            left -= count;
+        }
+        Ok(())
+    }
+
+    /// Skips bits, at least one and at most `most`, of what began at `first`, and returns how many. If no bit is left it fails, at
+    /// the first bit of `field`, to which the next bit belongs.
+    fn skip_some(&mut self, first: u64, field: u64, most: u64) -> Result<u64, Fault>
+        requires live { self.old.live ≡ true }
+        requires first { first ≤ self.old.position }
+        requires some { 0 < most }
+        ensures takes { IfOk result (λ count. TookGap field most count self.old self.new) }
+        ensures misses { IfErr result (λ fault. Why (gap_of field 1) self.old fault self.new) }
+        ensures memory { NeedsNoMemory result }
+        ensures stays { OnErr result (self.new.position ≡ first) }
+    {
+        match self.inflow.skip(most) {
+            Ok(count) => {
+                self.position += count;
+                Ok(count)
+            }
+            Err(missing) => {
+                let fault = self.fault_of(missing, field);
+                Err(self.fail_at(fault, first))
+            }
+        }
     }
 
     /// Reads a number of n bits, n from 1 to 32, the lowest bit first. Source: "Fixed Width Integers".
@@ -411,14 +492,13 @@ impl<S: Source> BitReader<S> {
         ensures memory { NeedsNoMemory result }
         ensures stays { OnErr result (self.new.position ≡ first) }
     {
-        let count = self.inflow.bits_held().min(most);
-        if count == 0 || self.inflow.peek(count) != 0 {
-            self.one_zero(first)?;
-            return Ok(1);
+        if let Some(0) = self.inflow.bits().part(most) {
+            self.inflow.advance(u64::from(most));
+            self.position += u64::from(most);
+            return Ok(most);
         }
-        self.inflow.take(count);
-        self.position += u64::from(count);
-        Ok(count)
+        self.one_zero(first)?;
+        Ok(1)
     }
 
     /// Takes one zero of a padding that began at `first`.
@@ -451,15 +531,12 @@ impl<S: Source> BitReader<S> {
         ensures through { IfOk result (λ end. end ≡ true → IsThrough self.new) }
         ensures stays { self.new.position ≡ self.old.position }
     {
-        if self.inflow.bits_held() > 0 {
-            return Ok(false);
-        }
         if !self.live {
             return Err(Fault::Failed);
         }
         let first = self.position;
-        match self.inflow.fill(1) {
-            Ok(()) => Ok(false),
+        match self.inflow.wait() {
+            Ok(_) => Ok(false),
             Err(Missing::End) => Ok(true),
             Err(Missing::Limit) => Err(self.miss(Missing::Limit, first)),
             Err(Missing::Read) => Err(self.miss(Missing::Read, first)),
@@ -479,7 +556,6 @@ impl<S: Source> BitReader<S> {
             return Err(Fault::Failed);
         }
         self.live = false;
-        self.inflow.clear();
         let end = self.inflow.end();
         if end < u64::MAX && self.position / 8 < end {
             return Err(Fault::Refused {

@@ -2,8 +2,6 @@
 #![tactic(auto)]
 
 #[cfg(test)]
-mod buffered;
-#[cfg(test)]
 mod chopped;
 #[cfg(test)]
 mod front;

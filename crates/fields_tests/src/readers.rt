@@ -608,10 +608,11 @@ fn characters(rt: HostRuntime) {
     assert!(rt; told == CHARACTERS);
 }
 
-/// What is held after three bits, in five, thirteen and fourteen bits, and the position.
+/// What is there after three bits, in five, thirteen and fourteen bits, and the position.
 fn peeks_of<S: Source>(reader: &mut BitReader<S>) -> (Result<u64, Fault>, [Option<u64>; 3], u64) {
     let bits = reader.fixed(3);
-    let told = [reader.peek(5), reader.peek(13), reader.peek(14)];
+    let there = reader.bits();
+    let told = [there.part(5), there.part(13), there.part(14)];
     (bits, told, reader.position())
 }
 

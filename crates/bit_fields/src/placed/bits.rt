@@ -5,38 +5,15 @@ ghost use Rattle.std.specs.Int.{w64, bit_not};
 ghost use Rattle.bit_grammar.specs.Bits.{bits_of, bits_of_bytes};
 ghost use Rattle.bit_grammar.specs.Fields.{fixed, vbr};
 ghost use Rattle.bit_fields.specs.Buffered.{Reads, beyond};
-ghost use Rattle.bit_fields.specs.BufferedParts.{bits_of_parts, AreParts};
 ghost use Rattle.bit_fields.specs.Placed.{HasNumbers, Shows, bits_at};
 ghost use Rattle.bit_fields.specs.PlacedView.{loaded, placed};
 
-use crate::buffered::{Buffered, BufferedParts};
 use crate::placed::{ChunkTops, LoadedBits, PlacedBits};
 use crate::six_bits::{EIGHT_TOPS, TOPS, end_of, goes_on};
 use crate::width::ChunkWidth;
 use crate::word::eight_of;
 
 impl<'a> PlacedBits<'a> {
-    /// Buffered bits from a position on, if they are not before the bytes.
-    #[inline(always)]
-    pub fn new(buffered_parts: BufferedParts<'a>, position: u64) -> Option<PlacedBits<'a>>
-        requires lawful { AreParts buffered_parts }
-        requires most { position ≤ (bits_of_parts buffered_parts).position
-            + length (bits_of_parts buffered_parts).bits }
-        ensures { IfSome result (λ found. (buffered_parts.entry.position ≤ position)
-            × (placed found ≡ beyond (bits_of_parts buffered_parts.entry)
-            (position - buffered_parts.entry.position))) }
-    {
-        let start = buffered_parts.position + u64::from(buffered_parts.held);
-        if position < start {
-            return None;
-        }
-        Some(PlacedBits {
-            bytes: buffered_parts.bytes,
-            start,
-            at: position - start,
-        })
-    }
-
     /// The position of the first bit.
     #[inline(always)]
     pub fn position(self) -> u64
@@ -121,12 +98,10 @@ impl<'a> PlacedBits<'a> {
         ensures { 0 < result.1 → Reads (vbr n) (placed self.entry) result.0
             (beyond (placed self.entry) result.1) }
     {
-        let mut buffered = Buffered::of(
-            &self.bytes[(self.at >> 3) as usize..],
-            self.start + (self.at & !7),
-        );
-        buffered.skip(self.at & 7);
-        buffered.far_vbr(ChunkWidth { bits: n })
+        match self.chunk_by_chunk(ChunkWidth { bits: n }) {
+            Some((value, after)) => (value, after.position() - self.position()),
+            None => (0, 0),
+        }
     }
 
     /// The length of a number in chunks of n bits that is long, if it is there.

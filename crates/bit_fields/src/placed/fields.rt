@@ -1,6 +1,6 @@
 //! Fields of placed bits, up to the last one that is complete.
 
-ghost use Rattle.std.specs.Prelude.{ℕ, ◌≡◌, ◌+◌, ◌*◌, ◌-◌, ◌^◌, ◌<◌, ◌≤◌, length, take, drop, get_or, IfSome, IfNone};
+ghost use Rattle.std.specs.Prelude.{ℕ, ◌≡◌, ◌+◌, ◌*◌, ◌-◌, ◌^◌, ◌<◌, ◌≤◌, [], length, take, drop, get_or, IfSome, IfNone};
 ghost use Rattle.bit_grammar.specs.Bits.{bits_of, bits_of_bytes, number};
 ghost use Rattle.bit_grammar.specs.Grammar.{repeat};
 ghost use Rattle.bit_grammar.specs.Fields.{fixed, vbr, align32};
@@ -8,6 +8,7 @@ ghost use Rattle.bit_fields.specs.Buffered.{Reads, beyond};
 ghost use Rattle.bit_fields.specs.Placed.{HasNumbers, IsFront, bits_at};
 ghost use Rattle.bit_fields.specs.PlacedView.{placed};
 
+use crate::numbers::{payload_of, worth_at};
 use crate::placed::PlacedBits;
 use crate::placed::bits::pass_sixes;
 use crate::width::{ChunkWidth, FieldWidth};
@@ -29,6 +30,18 @@ impl<'a> PlacedBits<'a> {
             };
         }
         PlacedBits { bytes, start, at }
+    }
+
+    /// No bits, at a position.
+    #[inline(always)]
+    pub(crate) fn none(position: u64) -> PlacedBits<'a>
+        ensures { placed result ≡ record { position = position; bits = [] } }
+    {
+        PlacedBits {
+            bytes: &[],
+            start: position,
+            at: 0,
+        }
     }
 
     /// The bits from a position on.
@@ -86,6 +99,29 @@ impl<'a> PlacedBits<'a> {
             return None;
         }
         Some((value, self.after(len)))
+    }
+
+    /// A number in chunks of n bits, and the bits after it, chunk by chunk.
+    pub(crate) fn chunk_by_chunk(self, n: ChunkWidth) -> Option<(u64, PlacedBits<'a>)>
+        ensures { IfSome result (λ read. Reads (vbr n.bits) (placed self.entry) read.0 (placed read.1)) }
+    {
+        let chunk = self.part(n.bits)?;
+        let mut bits = self.after(u64::from(n.bits));
+        if chunk < 1 << (n.bits - 1) {
+            return Some((chunk, bits));
+        }
+        let mut value = payload_of(chunk, n);
+        let mut place = n.bits - 1;
+        while place < 64 {
+            let chunk = bits.part(n.bits)?;
+            bits = bits.after(u64::from(n.bits));
+            value += worth_at(payload_of(chunk, n), place)?;
+            if chunk < 1 << (n.bits - 1) {
+                return Some((value, bits));
+            }
+            place += n.bits - 1;
+        }
+        None
     }
 
     /// Passes over numbers in chunks of six bits, as many as are found at once, at most `most`. Returns how many, and the bits behind.
