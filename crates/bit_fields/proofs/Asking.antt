@@ -2,15 +2,15 @@
 use Rattle.std.proofs.Common.{◌≡◌, ℕ, zero, suc, ◌+◌, ◌*◌, ◌-◌, ◌/◌, ◌%◌, ◌^◌, ◌<◌, ◌≤◌, min, Bool, true, false, cond, if◌then◌else◌, ltb, List, [], ◌∷◌, ◌++◌, length, take, drop, Option, Some, None, Result, Ok, Err, refl, sym, ap, ◌∙◌, subst, arith, append_assoc, take-take}
 use Rattle.std.specs.Prelude.{IsSome}
 use Rattle.std.proofs.lemmas.Bool.{false≢true, le-ltb, lt-ltb, and_right, and_left, and_from}
-use Rattle.std.proofs.lemmas.List.{append-nil, length-append, length-take-le, length-drop, take-append-drop, take_at}
+use Rattle.std.proofs.lemmas.List.{append-nil, length-append, length-take-le, length-drop, take-append-drop, take-append-le, take_at, drop-take}
 use Rattle.std.proofs.Math.Seq.{take-append-add}
 use Rattle.std.specs.Io.KnownBytes.{IsAtEnd}
 use Rattle.bit_fields.specs.declared.inflow.Missing.{Missing}
 use Rattle.bit_fields.specs.declared.inflow.Missing.TheVariants.{End, Limit, Read}
 use Rattle.bit_grammar.specs.Bits.{bits_of_bytes}
 use Rattle.bit_fields.specs.Devices.{Incoming, Begins, Gave, GaveNone, GaveUnseen, Looked, Spends, Fails, known_bytes}
-use Rattle.bit_fields.specs.Inflow.{Flow, lending, IsKnown, stop_of, place_of, taken_of, flow_bits, total_of, is_flow_cut, budget_of, carried_of, IsFlow, KeepsFlow, LooksOn, Drops, NoMore, LostFlow, Asks, to_ask}
-use Rattle.bit_fields.proofs.BitLaws.{bits_of_bytes-append, length-bits_of_bytes}
+use Rattle.bit_fields.specs.Inflow.{Flow, lending, IsKnown, stop_of, place_of, taken_of, flow_bits, total_of, is_flow_cut, budget_of, carried_of, IsFlow, Copies, KeepsFlow, LooksOn, Drops, NoMore, LostFlow, Asks, to_ask}
+use Rattle.bit_fields.proofs.BitLaws.{bits_of_bytes-append, length-bits_of_bytes, take_whole}
 use Rattle.bit_fields.proofs.InflowLaws.{Spends-refl, Spends-trans, fails_later, Keeps-refl, Keeps-trans, looked_spends, kept, at_end, came, gave_spends, lending_all, lent_known, lent_bytes, lent_after, lent_at_end, StillLent, spends_lent, fails_lent, looked_still, looked_lent, none_fails, drop_front, flow_length, looks_on}
 
 -- ---- the source of a flow
@@ -30,6 +30,14 @@ moved_bits t x y stop before at count len parts few past =
     ∙ ap (λ (n : ℕ). drop (at - 8 * length t) (bits_of_bytes (take n y))) room ∙ ap (λ (n : ℕ). drop n (bits_of_bytes (take (stop - (before + count)) y))) place)
 
 -- ---- bytes that are lent and read are taken
+
+not_true : (b : Bool) → (b ≡ true → ⊥) → b ≡ false
+not_true true no = absurd (no refl)
+not_true false no = refl
+
+-- a source that is at its end lends none
+pub going_so : (f : Flow) → IsFlow f → f.carry ≡ [] → 8 ≤ f.at → f.ended ≡ false
+going_so f was empty some = not_true f.ended (λ e. omega (arith, (was.ended e).2, was.place, some, ap length empty))
 
 passed_still : (lent count most : ℕ) (i j : Incoming) → GaveUnseen i j most count → StillLent lent (lent - count) i j
 passed_still lent count most i j gave k le = omega (arith, le, (came i j count gave.into gave.gave k).1)
@@ -72,9 +80,9 @@ passes f i j most count is was empty going most_is some gave g g_is =
       omega (arith, one, begun, none),
     )
 
--- the source lent them, and does not give them: it is not asked again, and its bytes are not known
+-- the source lent them, and does not give them: its bytes are not known
 pub passes_unseen : (f : Flow) (i j : Incoming) (most count : ℕ) → f.incoming ≡ lending f.lent i → IsFlow f → f.carry ≡ [] → f.ended ≡ false → most ≡ f.at / 8 → 8 ≤ f.at → count ≡ 0 → GaveUnseen i j most count
-    → (g : Flow) → g ≡ record f { incoming = lending (f.lent - most) j; lent = f.lent - most; at = f.at - 8 * most; before = f.before + most; ended = true } → KeepsFlow f g × IsFlow g × (to_ask g < to_ask f)
+    → (g : Flow) → g ≡ record f { incoming = lending (f.lent - most) j; lent = f.lent - most; at = f.at - 8 * most; before = f.before + most } → KeepsFlow f g × IsFlow g × (to_ask g < to_ask f)
 passes_unseen f i j most count is was empty going most_is low zero_given gave g g_is =
     let none : length f.carry ≡ 0 = ap length empty in
     let read : 8 * most ≤ f.at = omega (arith, most_is) in
@@ -85,12 +93,13 @@ passes_unseen f i j most count is was empty going most_is low zero_given gave g 
     let end : length (known_bytes j.to_come) ≡ 0 = ap length (at_end j.to_come (given.end refl gave.some)) in
     let not_known : IsKnown f → ⊥ = λ k. let t = lent_known f.lent i (known_so f i is k) in omega (arith, t.1, (came i j 0 gave.into given t.0).1, end, one, enough) in
     let still : StillLent f.lent (f.lent - most) i j = λ k le. omega (arith, le, (came i j 0 gave.into given k).1, end) in
+    let after : ℕ = f.limit + 1 - (f.before + most + length f.carry) in
     rw g_is (
       record {
         end = refl;
         limit = refl;
         place = omega (arith, read);
-        spends = rw (going, is) (spends_lent i j f.lent (f.lent - most) (f.limit + 1 - taken_of f) 0 (gave_spends i j 0 gave.into (f.limit + 1 - taken_of f) 0 given (omega arith) (omega (arith, begun, none, one))) still);
+        spends = rw is (spends_lent i j f.lent (f.lent - most) (f.limit + 1 - taken_of f) after (gave_spends i j 0 gave.into (f.limit + 1 - taken_of f) after given (omega (arith, one)) (omega (arith, begun, none, one, was.limit))) still);
         left = λ k. absurd (not_known k);
         total = λ k. absurd (not_known k);
       },
@@ -102,7 +111,7 @@ passes_unseen f i j most count is was empty going most_is low zero_given gave g 
         within = λ more. omega (arith, was.within (omega (arith, more)), enough);
         taken = omega (arith, begun, none);
         limit = was.limit;
-        ended = λ e. (lent_at_end (f.lent - most) j (given.end refl gave.some), omega (arith, begun, none));
+        ended = λ e. absurd (false≢true (sym going ∙ e));
       },
       omega (arith, one, begun, none),
     )
@@ -163,7 +172,7 @@ drops f whole rest was whole_is low rest_is g g_is =
         within = λ more. omega (arith, was.within more, len, there);
         taken = omega (arith, was.taken, len, there);
         limit = was.limit;
-        ended = λ e. ((was.ended e).0, omega (arith, (was.ended e).1, len, there));
+        ended = λ e. ((was.ended e).0, omega (arith, (was.ended e).1, len, there), (was.ended e).2);
       },
     )
   where
@@ -188,27 +197,27 @@ dropped_so f g d =
 
 -- ---- bytes are taken into the carry
 
-pub record Joins (f : Flow) (more : List ℕ) (lent : ℕ) (j : Incoming) (ended : Bool) : Type 0 where
+pub record Joins (f : Flow) (more : List ℕ) (lent : ℕ) (j : Incoming) : Type 0 where
   pub some : 0 < length more
   pub room : length f.carry + length more ≤ 64
   pub low : f.at < 8
   pub within : taken_of f + length more ≤ stop_of f
   pub lent_is : f.lent ≤ length more + lent
   pub more_lent : 0 < lent → lent + length more ≤ f.lent
-  pub spends : Spends f.incoming (budget_of f) (lending lent j) (if ended then 0 else (f.limit + 1 - (taken_of f + length more)))
+  pub going : f.ended ≡ false
+  pub spends : Spends f.incoming (f.limit + 1 - taken_of f) (lending lent j) (f.limit + 1 - (taken_of f + length more))
   pub bytes : IsKnown f → known_bytes f.incoming.to_come ≡ more ++ known_bytes (lending lent j).to_come
-  pub at_end : ended ≡ true → IsAtEnd (lending lent j).to_come
 
-pub joined : (f : Flow) (more : List ℕ) (lent : ℕ) (j : Incoming) (ended : Bool) → IsFlow f → Joins f more lent j ended → (g : Flow) → g ≡ record f { carry = f.carry ++ more; incoming = lending lent j; lent = lent; ended = ended } → KeepsFlow f g × IsFlow g × (to_ask g < to_ask f)
-joined f more lent j ended was is g g_is =
+pub joined : (f : Flow) (more : List ℕ) (lent : ℕ) (j : Incoming) → IsFlow f → Joins f more lent j → (carry : List ℕ) → carry ≡ f.carry ++ more → (g : Flow) → g ≡ record f { carry = carry; incoming = lending lent j; lent = lent } → KeepsFlow f g × IsFlow g × (to_ask g < to_ask f)
+joined f more lent j was is carry carry_is g g_is =
     let len : length (f.carry ++ more) ≡ length f.carry + length more = length-append f.carry more in
     let taken : f.before + length (f.carry ++ more) ≡ taken_of f + length more = omega (arith, len) in
-    rw g_is (
+    rw (g_is, carry_is) (
       record {
         end = refl;
         limit = refl;
         place = refl;
-        spends = rw taken is.spends;
+        spends = rw (is.going, taken) is.spends;
         left = λ k. ap (λ (b : List ℕ). drop f.at (bits_of_bytes (take (stop_of f - f.before) b))) (append_assoc f.carry more (known_bytes (lending lent j).to_come) ∙ ap (λ (b : List ℕ). f.carry ++ b) (sym (is.bytes k)));
         total = λ k. omega (arith, len, ap length (is.bytes k), length-append more (known_bytes (lending lent j).to_come));
       },
@@ -220,13 +229,13 @@ joined f more lent j ended was is g g_is =
         within = λ some. omega (arith, len, was.within (omega (arith, some, is.more_lent some)), is.more_lent some);
         taken = omega (arith, len, is.within);
         limit = was.limit;
-        ended = λ e. (is.at_end e, omega (arith, len, is.within));
+        ended = λ e. absurd (false≢true (sym is.going ∙ e));
       },
       omega (arith, len, is.some, is.within),
     )
 
 -- what a pull gave
-pub pulled : (f : Flow) (i j : Incoming) (count room : ℕ) (into : List ℕ) → f.incoming ≡ lending f.lent i → f.ended ≡ false → f.at < 8 → length f.carry + length into ≤ 64 → taken_of f + length into ≤ stop_of f → (count ≡ 0 → ⊥) → Gave i j count into → Joins f (take count into) (f.lent - count) j false
+pub pulled : (f : Flow) (i j : Incoming) (count room : ℕ) (into : List ℕ) → f.incoming ≡ lending f.lent i → f.ended ≡ false → f.at < 8 → length f.carry + length into ≤ 64 → taken_of f + length into ≤ stop_of f → (count ≡ 0 → ⊥) → Gave i j count into → Joins f (take count into) (f.lent - count) j
 pulled f i j count room into is going low free within some gave =
     let len : length (take count into) ≡ count = length-take-le count into gave.fits in
     let after : ℕ = f.limit + 1 - (taken_of f + length (take count into)) in
@@ -238,9 +247,30 @@ pulled f i j count room into is going low free within some gave =
       within = omega (arith, len, gave.fits, within);
       lent_is = omega (arith, len);
       more_lent = λ more. omega (arith, len, more);
-      spends = rw (going, is) (spends_lent i j f.lent (f.lent - count) (f.limit + 1 - taken_of f) after (gave_spends i j count into (f.limit + 1 - taken_of f) after gave (omega (arith, len, gave.fits, within)) (omega (arith, len, some, gave.fits, within))) still);
+      spends = rw is (spends_lent i j f.lent (f.lent - count) (f.limit + 1 - taken_of f) after (gave_spends i j count into (f.limit + 1 - taken_of f) after gave (omega (arith, len, gave.fits, within)) (omega (arith, len, some, gave.fits, within))) still);
       bytes = λ k. bytes_so f i is k ∙ (came i j count into gave (lent_known f.lent i (known_so f i is k)).0).0 ∙ ap (λ (b : List ℕ). take count into ++ b) (sym (lent_after f.lent (f.lent - count) i j still (known_so f i is k)));
-      at_end = λ e. absurd (false≢true e);
+      going = going;
+    }
+
+-- a pull gave nothing, though the source has lent a byte: its bytes are not known
+pub pulled_unseen : (f : Flow) (i j : Incoming) (count : ℕ) (into : List ℕ) → f.incoming ≡ lending f.lent i → f.ended ≡ false → f.at < 8 → length f.carry < 64 → taken_of f < stop_of f → count ≡ 0 → 0 < f.lent → 0 < length into → Gave i j count into → Joins f (take 1 into) (f.lent - 1) j
+pulled_unseen f i j count into is going low free within zero_given lent room gave =
+    let given : Gave i j 0 into = subst (λ (n : ℕ). Gave i j n into) zero_given gave in
+    let none : length (known_bytes j.to_come) ≡ 0 = ap length (at_end j.to_come (given.end refl room)) in
+    let nothing : IsSome i.to_come → length (known_bytes i.to_come) ≡ 0 = λ k. omega (arith, (came i j 0 into given k).1, none) in
+    let not_known : IsKnown f → ⊥ = λ k. let t = lent_known f.lent i (known_so f i is k) in omega (arith, t.1, nothing t.0, lent) in
+    let len : length (take 1 into) ≡ 1 = length-take-le 1 into (omega (arith, room)) in
+    let after : ℕ = f.limit + 1 - (taken_of f + length (take 1 into)) in
+    record {
+      some = omega (arith, len);
+      room = omega (arith, len, free);
+      low = low;
+      within = omega (arith, len, within);
+      lent_is = omega (arith, len);
+      more_lent = λ more. omega (arith, len, more);
+      going = going;
+      spends = rw is (spends_lent i j f.lent (f.lent - 1) (f.limit + 1 - taken_of f) after (gave_spends i j 0 into (f.limit + 1 - taken_of f) after given (omega arith) (omega (arith, len, within))) (λ k le. omega (arith, le, nothing k)));
+      bytes = λ k. absurd (not_known k);
     }
 
 -- bytes that a source shows, and the front of what it has
@@ -249,7 +279,7 @@ shown_front None shown front known = absurd cc
 shown_front (Some all) shown front known = front
 
 -- what was copied was then taken
-pub copied_taken : (f : Flow) (i j l : Incoming) (count copied : ℕ) (shown : List ℕ) → f.incoming ≡ lending f.lent i → f.ended ≡ false → f.at < 8 → IsFlow f → length f.carry + length shown ≤ 64 → length shown ≡ copied → copied ≤ f.lent → Looked i j → Begins i.to_come shown → (count ≡ 0 → ⊥) → GaveUnseen j l copied count → Joins f (take count shown) (f.lent - count) l false
+pub copied_taken : (f : Flow) (i j l : Incoming) (count copied : ℕ) (shown : List ℕ) → f.incoming ≡ lending f.lent i → f.ended ≡ false → f.at < 8 → IsFlow f → length f.carry + length shown ≤ 64 → length shown ≡ copied → copied ≤ f.lent → Looked i j → Begins i.to_come shown → (count ≡ 0 → ⊥) → GaveUnseen j l copied count → Joins f (take count shown) (f.lent - count) l
 copied_taken f i j l count copied shown is going low was free copied_is enough looked front some gave =
     let len : length (take count shown) ≡ count = length-take-le count shown (omega (arith, gave.few, copied_is)) in
     let after : ℕ = f.limit + 1 - (taken_of f + length (take count shown)) in
@@ -267,13 +297,13 @@ copied_taken f i j l count copied shown is going low was free copied_is enough l
       within = omega (arith, len, gave.few, within);
       lent_is = omega (arith, len);
       more_lent = λ more. omega (arith, len, more);
-      spends = rw (going, is) (spends_lent i l f.lent (f.lent - count) (f.limit + 1 - taken_of f) after (Spends-trans i (f.limit + 1 - taken_of f) j (f.limit + 1 - taken_of f) l after (looked_spends i j (f.limit + 1 - taken_of f) looked) (gave_spends j l count gave.into (f.limit + 1 - taken_of f) after gave.gave (omega (arith, len, gave.few, within)) (omega (arith, len, some, gave.few, within)))) still);
+      spends = rw is (spends_lent i l f.lent (f.lent - count) (f.limit + 1 - taken_of f) after (Spends-trans i (f.limit + 1 - taken_of f) j (f.limit + 1 - taken_of f) l after (looked_spends i j (f.limit + 1 - taken_of f) looked) (gave_spends j l count gave.into (f.limit + 1 - taken_of f) after gave.gave (omega (arith, len, gave.few, within)) (omega (arith, len, some, gave.few, within)))) still);
       bytes = λ k. let known = (lent_known f.lent i (known_so f i is k)).0 in bytes_so f i is k ∙ gone known ∙ ap (λ (b : List ℕ). b ++ known_bytes l.to_come) (sym (first known)) ∙ ap (λ (b : List ℕ). take count shown ++ b) (sym (lent_after f.lent (f.lent - count) i l still (known_so f i is k)));
-      at_end = λ e. absurd (false≢true e);
+      going = going;
     }
 
 -- the source does not give them: its bytes are not known
-pub copied_unseen : (f : Flow) (i j l : Incoming) (count copied : ℕ) (shown : List ℕ) → f.incoming ≡ lending f.lent i → f.ended ≡ false → f.at < 8 → IsFlow f → length f.carry + length shown ≤ 64 → length shown ≡ copied → copied ≤ f.lent → (copied ≡ 0 → ⊥) → Looked i j → count ≡ 0 → GaveUnseen j l copied count → Joins f shown (f.lent - copied) l true
+pub copied_unseen : (f : Flow) (i j l : Incoming) (count copied : ℕ) (shown : List ℕ) → f.incoming ≡ lending f.lent i → f.ended ≡ false → f.at < 8 → IsFlow f → length f.carry + length shown ≤ 64 → length shown ≡ copied → copied ≤ f.lent → (copied ≡ 0 → ⊥) → Looked i j → count ≡ 0 → GaveUnseen j l copied count → Joins f shown (f.lent - copied) l
 copied_unseen f i j l count copied shown is going low was free copied_is enough some looked zero_given gave =
     let given : Gave j l 0 gave.into = subst (λ (n : ℕ). Gave j l n gave.into) zero_given gave.gave in
     let end = given.end refl gave.some in
@@ -289,9 +319,9 @@ copied_unseen f i j l count copied shown is going low was free copied_is enough 
       within = omega (arith, copied_is, within);
       lent_is = omega (arith, copied_is);
       more_lent = λ more. omega (arith, copied_is, more);
-      spends = rw (going, is) (spends_lent i l f.lent (f.lent - copied) (f.limit + 1 - taken_of f) 0 (Spends-trans i (f.limit + 1 - taken_of f) j (f.limit + 1 - taken_of f) l 0 (looked_spends i j (f.limit + 1 - taken_of f) looked) (gave_spends j l 0 gave.into (f.limit + 1 - taken_of f) 0 given (omega arith) (omega (arith, within, some)))) still);
+      spends = rw is (spends_lent i l f.lent (f.lent - copied) (f.limit + 1 - taken_of f) (f.limit + 1 - (taken_of f + length shown)) (Spends-trans i (f.limit + 1 - taken_of f) j (f.limit + 1 - taken_of f) l (f.limit + 1 - (taken_of f + length shown)) (looked_spends i j (f.limit + 1 - taken_of f) looked) (gave_spends j l 0 gave.into (f.limit + 1 - taken_of f) (f.limit + 1 - (taken_of f + length shown)) given (omega arith) (omega (arith, within, some, copied_is)))) still);
       bytes = λ k. absurd (not_known k);
-      at_end = λ e. lent_at_end (f.lent - copied) l end;
+      going = going;
     }
 
 -- the carry after bytes were copied behind it
@@ -299,6 +329,31 @@ pub copied_carry : (held count copied : ℕ) (old new shown : List ℕ) → leng
 copied_carry held count copied old new shown len is few =
     let all : held + count ≡ length (take held old) + count = omega (arith, len) in
     sym (take-take (held + count) (held + copied) new (omega (arith, few))) ∙ ap (take (held + count)) is ∙ ap (λ (n : ℕ). take n (take held old ++ shown)) all ∙ take-append-add (take held old) shown count
+
+-- bytes that were written behind the first ones of a list
+pub written_behind : (held count : ℕ) (old new post : List ℕ) → held ≤ length old → count ≤ length new → take (held + count) (take held old ++ (new ++ post)) ≡ take held old ++ take count new
+written_behind held count old new post there few =
+    let all : held + count ≡ length (take held old) + count = omega (arith, length-take-le held old there) in
+    ap (λ (n : ℕ). take n (take held old ++ (new ++ post))) all ∙ take-append-add (take held old) (new ++ post) count ∙ ap (λ (b : List ℕ). take held old ++ b) (take-append-le count new post few)
+
+-- bytes of the carry that were moved to its front
+pub moved_front : (whole held left : ℕ) (old new post : List ℕ) → whole ≤ held → held ≤ length old → left ≡ held - whole → new ≡ take left (drop whole old) → take left (new ++ post) ≡ drop whole (take held old)
+moved_front whole held left old new post few there left_is new_is =
+    let all : whole + left ≡ held = omega (arith, left_is, few) in
+    let len : length new ≡ left = omega (arith, ap length new_is, length-take-le left (drop whole old) (omega (arith, length-drop whole old, there, left_is, few))) in
+    take_at new post left len ∙ new_is ∙ sym (drop-take whole left old) ∙ ap (λ (n : ℕ). drop whole (take n old)) all
+
+pub copies_so : (to_come : Option (List ℕ)) (held count : ℕ) (old new shown post : List ℕ) → held ≤ length old → count ≤ length shown → new ≡ take count shown → Begins to_come shown → Copies to_come held count old (take held old ++ (new ++ post))
+copies_so to_come held count old new shown post there few new_is front =
+    let len : length new ≡ count = omega (arith, ap length new_is, length-take-le count shown few) in
+    let whole : take count new ≡ new = take_whole count new (omega (arith, len)) in
+    record { shown = new; long = len; front = subst (Begins to_come) (sym new_is) (shorter to_come front); is = written_behind held count old new post there (omega (arith, len)) ∙ ap (λ (b : List ℕ). take held old ++ b) whole }
+  where
+    shorter : (o : Option (List ℕ)) → Begins o shown → Begins o (take count shown)
+    shorter None front = tt
+    shorter (Some all) front =
+        let n : length (take count shown) ≡ count = length-take-le count shown few in
+        ap (λ (m : ℕ). take m all) n ∙ sym (take-take count (length shown) all (omega (arith, few))) ∙ ap (take count) front
 
 -- ---- no more bytes come
 
@@ -315,8 +370,8 @@ pub stops_at_limit : (f : Flow) → stop_of f ≤ taken_of f → f.limit < f.end
 stops_at_limit f at lt over = record { keeps = Keeps-refl f; left = omega (arith, flow_length f, at); cut = and_from (ltb f.limit (total_of f)) (ltb f.limit f.end) (lt-ltb f.limit (total_of f) (omega (arith, over))) (lt-ltb f.limit f.end lt) }
 
 -- the source returns now that it is at its end
-pub ends_here : (f : Flow) (i j : Incoming) (count : ℕ) (into : List ℕ) → f.incoming ≡ lending f.lent i → IsFlow f → f.ended ≡ false → taken_of f ≤ f.limit → count ≡ 0 → 0 < length into → Gave i j count into → (g : Flow) → g ≡ record f { incoming = lending f.lent j; ended = true } → NoMore f g false × IsFlow g
-ends_here f i j count into is was going le zero_given room gave g g_is =
+pub ends_here : (f : Flow) (i j : Incoming) (count : ℕ) (into : List ℕ) → f.incoming ≡ lending f.lent i → IsFlow f → f.ended ≡ false → f.lent ≡ 0 → taken_of f ≤ f.limit → count ≡ 0 → 0 < length into → Gave i j count into → (g : Flow) → g ≡ record f { incoming = lending f.lent j; ended = true } → NoMore f g false × IsFlow g
+ends_here f i j count into is was going none_lent le zero_given room gave g g_is =
     let given : Gave i j 0 into = subst (λ (n : ℕ). Gave i j n into) zero_given gave in
     let end = given.end refl room in
     let none : known_bytes j.to_come ≡ [] = at_end j.to_come end in
@@ -331,20 +386,20 @@ ends_here f i j count into is was going le zero_given room gave g g_is =
           end = refl;
           limit = refl;
           place = refl;
-          spends = rw (going, is) (spends_lent i j f.lent f.lent (f.limit + 1 - taken_of f) 0 (gave_spends i j 0 into (f.limit + 1 - taken_of f) 0 given (omega arith) (omega (arith, le))) still);
+          spends = rw is (spends_lent i j f.lent f.lent (f.limit + 1 - taken_of f) 0 (gave_spends i j 0 into (f.limit + 1 - taken_of f) 0 given (omega arith) (omega (arith, le))) still);
           left = λ k. ap (λ (b : List ℕ). drop f.at (bits_of_bytes (take (stop_of f - f.before) (f.carry ++ b)))) (after ∙ sym (before k));
           total = λ k. omega (arith, ap length after, ap length (before k));
         };
         left = omega (arith, flow_length later, ap length after);
         cut = and_left (ltb f.limit (total_of later)) (ltb f.limit f.end) (le-ltb f.limit (total_of later) (omega (arith, le, ap length after)));
       },
-      record { held = was.held; begun = was.begun; place = was.place; carried = was.carried; within = was.within; taken = was.taken; limit = was.limit; ended = λ e. (lent_at_end f.lent j end, le) },
+      record { held = was.held; begun = was.begun; place = was.place; carried = was.carried; within = was.within; taken = was.taken; limit = was.limit; ended = λ e. (lent_at_end f.lent j end, le, none_lent) },
     )
 
 -- a byte past the limit shows that the input is longer
 pub goes_past : (f : Flow) (i j : Incoming) (count : ℕ) (into : List ℕ) → f.incoming ≡ lending f.lent i → IsFlow f → f.ended ≡ false → f.lent ≡ 0 → f.at < 8 → length f.carry ≤ 8 → stop_of f ≤ taken_of f → taken_of f ≤ f.limit → f.limit < f.end → (count ≡ 0 → ⊥) → length into ≡ 1 → Gave i j count into
-    → (g : Flow) → g ≡ record f { carry = f.carry ++ take 1 into; incoming = lending f.lent j } → NoMore f g true × IsFlow g
-goes_past f i j count into is was going none_lent low few at le lt some one gave g g_is =
+    → (carry : List ℕ) → carry ≡ f.carry ++ take 1 into → (g : Flow) → g ≡ record f { carry = carry; incoming = lending f.lent j } → NoMore f g true × IsFlow g
+goes_past f i j count into is was going none_lent low few at le lt some one gave carry carry_is g g_is =
     let count_is : count ≡ 1 = omega (arith, gave.fits, one, some) in
     let given : Gave i j 1 into = subst (λ (n : ℕ). Gave i j n into) count_is gave in
     let len : length (f.carry ++ take 1 into) ≡ length f.carry + 1 = omega (arith, length-append f.carry (take 1 into), length-take-le 1 into given.fits) in
@@ -352,13 +407,13 @@ goes_past f i j count into is was going none_lent low few at le lt some one gave
     let later : Flow = record f { carry = f.carry ++ take 1 into; incoming = lending f.lent j } in
     let bytes : IsKnown f → known_bytes f.incoming.to_come ≡ take 1 into ++ known_bytes (lending f.lent j).to_come = λ k. bytes_so f i is k ∙ (came i j 1 into given (lent_known f.lent i (known_so f i is k)).0).0 ∙ ap (λ (b : List ℕ). take 1 into ++ b) (sym (lent_after f.lent f.lent i j still (known_so f i is k))) in
     let after : ℕ = f.limit + 1 - taken_of later in
-    rw g_is (
+    rw (g_is, carry_is) (
       record {
         keeps = record {
           end = refl;
           limit = refl;
           place = refl;
-          spends = rw (going, is) (spends_lent i j f.lent f.lent (f.limit + 1 - taken_of f) after (gave_spends i j 1 into (f.limit + 1 - taken_of f) after given (omega (arith, len, le)) (omega (arith, len, le))) still);
+          spends = rw is (spends_lent i j f.lent f.lent (f.limit + 1 - taken_of f) after (gave_spends i j 1 into (f.limit + 1 - taken_of f) after given (omega (arith, len, le)) (omega (arith, len, le))) still);
           left = λ k. ap (λ (b : List ℕ). drop f.at (bits_of_bytes (take (stop_of f - f.before) b))) (append_assoc f.carry (take 1 into) (known_bytes (lending f.lent j).to_come) ∙ ap (λ (b : List ℕ). f.carry ++ b) (sym (bytes k)));
           total = λ k. omega (arith, len, ap length (bytes k), length-append (take 1 into) (known_bytes (lending f.lent j).to_come), length-take-le 1 into given.fits);
         };

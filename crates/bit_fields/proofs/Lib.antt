@@ -2,10 +2,9 @@ pub mod BitLaws
 pub mod Words
 pub mod InflowLaws
 pub mod Asking
+pub mod Flowing
 pub mod Keeping
 pub mod Fronts
-pub mod Shortening
-pub mod Draining
 pub mod Composing
 pub mod Parts
 pub mod Chunks
@@ -21,7 +20,6 @@ pub mod Short
 pub mod BufferedReads
 pub mod LentParts
 pub mod Texts
-pub mod Looking
 pub mod Unlike
 pub mod Standing
 pub mod Expecting

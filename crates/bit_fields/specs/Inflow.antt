@@ -1,5 +1,5 @@
 -- The bits of a stream that a source still gives, and the state after reading some.
-use Rattle.std.specs.Prelude.{◌≡◌, ℕ, ◌+◌, ◌-◌, ◌*◌, ◌^◌, ◌<◌, ◌≤◌, min, Bool, true, false, if◌then◌else◌, List, [], ◌++◌, length, take, drop, Option, Some, None, IsSome, Result, Ok, Err, nat_lt, nat_le, ◌&&◌}
+use Rattle.std.specs.Prelude.{◌≡◌, ℕ, ◌+◌, ◌-◌, ◌*◌, ◌^◌, ◌<◌, ◌≤◌, ◌⊎◌, min, Bool, true, false, if◌then◌else◌, List, [], ◌++◌, length, take, drop, Option, Some, None, IsSome, Result, Ok, Err, nat_lt, nat_le, ◌&&◌}
 use Rattle.std.specs.Io.KnownBytes.{IsAtEnd}
 use Rattle.bit_grammar.specs.Bits.{number, bits_of_bytes}
 use Rattle.bit_fields.specs.Buffered.{BufferedBits}
@@ -81,7 +81,7 @@ pub record IsFlow (f : Flow) : Type 0 where
   -- past the limit there is only the byte that shows that the input is longer
   pub taken : taken_of f ≤ f.limit + 1
   pub limit : f.limit < 2 ^ 35
-  pub ended : f.ended ≡ true → IsAtEnd f.incoming.to_come × (taken_of f ≤ f.limit)
+  pub ended : f.ended ≡ true → IsAtEnd f.incoming.to_come × (taken_of f ≤ f.limit) × (f.lent ≡ 0)
 
 -- what stays if bytes were taken, or none are left
 pub record KeepsFlow (old new : Flow) : Type 0 where
@@ -112,6 +112,7 @@ pub record Advances (count : ℕ) (old new : Flow) : Type 0 where
   pub limit : new.limit ≡ old.limit
   pub place : place_of new ≡ place_of old + count
   pub there : there_of new + count ≡ there_of old
+  pub small : place_of new < 2 ^ 39
   pub budget : budget_of new ≡ budget_of old
   pub left : flow_bits new ≡ drop count (flow_bits old)
   pub total : total_of new ≡ total_of old
@@ -124,6 +125,7 @@ pub record TakesBits (n value : ℕ) (old new : Flow) : Type 0 where
   pub end : new.end ≡ old.end
   pub limit : new.limit ≡ old.limit
   pub place : place_of new ≡ place_of old + n
+  pub small : place_of new < 2 ^ 39
   pub spends : Spends old.incoming (budget_of old) new.incoming (budget_of new)
   pub left : IsKnown old → flow_bits old ≡ front ++ flow_bits new
   pub total : IsKnown old → total_of new ≡ total_of old
@@ -195,6 +197,7 @@ TakesLate n old new (Err missing) = Misses n old new missing
 -- the effect of waiting for a bit: so many are there
 abbrev pub Waits : Flow → Flow → Result ℕ Missing → Type 0
 Waits old new (Ok count) = KeepsFlow old new × (0 < count) × (count ≤ there_of new)
+    × (IsKnown old → count ≤ length (flow_bits old))
 Waits old new (Err missing) = Misses 1 old new missing
 
 -- bits of the stream were skipped
@@ -203,6 +206,7 @@ pub record Skips (old new : Flow) (count : ℕ) : Type 0 where
   pub end : new.end ≡ old.end
   pub limit : new.limit ≡ old.limit
   pub place : place_of new ≡ place_of old + count
+  pub small : place_of new < 2 ^ 39
   pub spends : Spends old.incoming (budget_of old) new.incoming (budget_of new)
   pub there : IsKnown old → count ≤ length (flow_bits old)
   pub left : IsKnown old → flow_bits new ≡ drop count (flow_bits old)
@@ -232,7 +236,16 @@ pub record Copies (to_come : Option (List ℕ)) (held count : ℕ) (old new : Li
 
 -- ---- the source when nothing more is read
 
--- the bytes of which all bits were read are taken
+-- the bytes of which all bits were read are taken, if their source is known
+abbrev pub IsSettled : Flow → Type 0
+IsSettled f = IsKnown f → place_of f < 8 * taken_of f + 8
+
+-- the effect of taking them
+abbrev pub Settles : Flow → Flow → Type 0
+Settles old new = (KeepsFlow old new × IsSettled new)
+    ⊎ Fails old.incoming (budget_of old) new.incoming 0
+
+-- they are taken from a source that is returned
 pub record HandsOver (old : Flow) (now : Incoming) : Type 0 where
   pub spends : Spends old.incoming (budget_of old) now 0
   pub behind : IsKnown old → place_of old < 8 * (total_of old - length (known_bytes now.to_come)) + 8

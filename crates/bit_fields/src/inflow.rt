@@ -1,9 +1,9 @@
-ghost use Rattle.std.specs.Prelude.{ℕ, ◌≡◌, ◌+◌, ◌*◌, ◌-◌, ◌<◌, ◌≤◌, ◌^◌, ◌⊎◌, length, true, false, take, drop, [], OnOk, IfOk, IfSome, IfNone, Err};
+ghost use Rattle.std.specs.Prelude.{ℕ, ◌≡◌, ◌+◌, ◌*◌, ◌-◌, ◌<◌, ◌≤◌, ◌^◌, ◌⊎◌, length, true, false, take, drop, [], OnErr, OnOk, IfOk, IfSome, IfNone, Err};
 ghost use Rattle.bit_grammar.specs.Bits.{number};
-ghost use Rattle.bit_fields.specs.Inflow.{IsFlow, KeepsFlow, LooksOn, Shows, Advances, TakesBits, Lacks, Drops, Asks, TakesLate, Waits, SkipsSome, Shortens, Copies, HandsOver, Drains, stop_of, taken_of, place_of, carried_of, there_of, budget_of, to_ask};
+ghost use Rattle.bit_fields.specs.Inflow.{IsFlow, IsKnown, KeepsFlow, LooksOn, LostFlow, Shows, Advances, TakesBits, Lacks, Drops, Asks, TakesLate, Waits, SkipsSome, Shortens, Copies, HandsOver, IsSettled, Settles, Drains, stop_of, taken_of, place_of, carried_of, there_of, budget_of, to_ask};
 ghost use Rattle.bit_fields.specs.PlacedView.{placed};
 ghost use Rattle.std.specs.Borrow.{sem};
-ghost use Rattle.bit_fields.specs.Devices.{Looked, Fails, Spends};
+ghost use Rattle.bit_fields.specs.Devices.{Looked, Fails, Spends, known_bytes};
 ghost use Rattle.std.specs.Io.BufRead.{Rests};
 
 use crate::placed::PlacedBits;
@@ -78,6 +78,7 @@ impl<S: Source> Model for Inflow<S> {
 fn copy_lent<S: Source>(source: &mut S, most: usize, carry: &mut [u8; CARRY], held: usize) -> usize
     requires { held ≤ 64 }
     ensures looked { Looked (S.incoming source.old) (S.incoming source.new) }
+    ensures same { most ≡ 0 → S.incoming source.new ≡ S.incoming source.old }
     ensures most { result ≤ most }
     ensures room { held + result ≤ 64 }
     ensures copies { Copies (S.incoming source.old).to_come held result carry.old carry.new }
@@ -124,7 +125,9 @@ impl<S: Source> Inflow<S> {
     /// States the invariant.
     #[inline(always)]
     pub fn is_flow(&self)
-        ensures { IsFlow self.now }
+        ensures flow { IsFlow self.now }
+        ensures lent { IsKnown self.now
+            → self.now.lent ≤ length (known_bytes self.now.incoming.to_come) }
     {
         let _at = self.at;
     }
@@ -142,12 +145,33 @@ impl<S: Source> Inflow<S> {
             ⊎ Fails self.incoming (budget_of self) (S.incoming result) 0 }
     {
         let mut inflow = self;
-        while inflow.held == 0 && inflow.at >= 8 && !inflow.ended {
-            if inflow.pass_read().is_err() {
-                break;
+        inflow.settle();
+        inflow.source
+    }
+
+    /// Takes the bytes of which all bits are read, unless the source fails.
+    fn settle(&mut self)
+        ensures { Settles self.old self.new }
+    {
+        while self.lags() {
+            match self.pass_read() {
+                Ok(()) => {}
+                Err(SourceFailed) => return,
             }
         }
-        inflow.source
+    }
+
+    /// Whether there are bytes that are lent and of which all bits are read.
+    #[inline(always)]
+    fn lags(&self) -> bool
+        ensures yes { result ≡ true → (self.now.carry ≡ []) × (8 ≤ self.now.at) }
+        ensures no { result ≡ false → self.now.carry ≡ [] → self.now.at < 8 }
+        ensures settled { result ≡ false → IsSettled self.now }
+    {
+        if self.held > 0 {
+            return false;
+        }
+        self.at >= 8
     }
 
     /// At which byte the stream ends, or the limit.
@@ -172,10 +196,13 @@ impl<S: Source> Inflow<S> {
         ensures* shows { sem 𝓛 (Rests (the_row S.row S.Source) self.entry
             (λ new. Shows self.old (placed result) new)) }
     {
-        if self.held > 0 || 8 * self.lent as u64 <= self.at {
+        if self.held > 0 {
             return self.joined();
         }
         let (start, at, lent) = (8 * self.before, self.at, self.lent);
+        if 8 * lent as u64 <= at {
+            return PlacedBits::none(start + at);
+        }
         let bytes = self.source.lend();
         PlacedBits::at_most(&bytes[..lent.min(bytes.len())], start, at)
     }
@@ -200,9 +227,13 @@ impl<S: Source> Inflow<S> {
         ensures below { IfSome result (λ value. value < 2 ^ n) }
         ensures none { IfNone result (Lacks n self.old self.new) }
     {
-        let value = self.bits().part(n)?;
-        self.advance(u64::from(n));
-        Some(value)
+        match self.bits().part(n) {
+            Some(value) => {
+                self.advance(u64::from(n));
+                Some(value)
+            }
+            None => None,
+        }
     }
 
     /// Moves on by bits that are there.
@@ -211,9 +242,25 @@ impl<S: Source> Inflow<S> {
         requires { bits ≤ there_of self.old }
         ensures { Advances bits self.old self.new }
     {
-        self.at += bits;
-        if self.held > 0 && self.at >= 8 * self.held as u64 {
-            self.at -= 8 * self.held as u64;
+        if self.held > 0 {
+            self.advance_carry(bits);
+        } else {
+            self.at += bits;
+        }
+    }
+
+    /// The same in the carry, and goes on behind it if all of its bytes are read.
+    #[inline(never)]
+    fn advance_carry(&mut self, bits: u64)
+        requires { bits ≤ there_of self.old }
+        ensures { Advances bits self.old self.new }
+    {
+        let at = self.at + bits;
+        let held = 8 * self.held as u64;
+        if at < held {
+            self.at = at;
+        } else {
+            self.at = at - held;
             self.before += self.held as u64;
             self.held = 0;
         }
@@ -228,8 +275,11 @@ impl<S: Source> Inflow<S> {
         if self.ended {
             return Err(Missing::End);
         }
-        if self.held == 0 && self.at >= 8 {
-            return self.pass_read();
+        if self.lags() {
+            return match self.pass_read() {
+                Ok(()) => Ok(()),
+                Err(SourceFailed) => Err(Missing::Read),
+            };
         }
         self.drop_read();
         if self.lent > 0 {
@@ -242,21 +292,16 @@ impl<S: Source> Inflow<S> {
     }
 
     /// Takes bytes that are lent and of which all bits are read.
-    fn pass_read(&mut self) -> Result<(), Missing>
+    fn pass_read(&mut self) -> Result<(), SourceFailed>
         requires empty { self.old.carry ≡ [] }
         requires some { 8 ≤ self.old.at }
-        requires going { self.old.ended ≡ false }
-        ensures asks { Asks self.old self.new result }
-        ensures fewer { OnOk result (to_ask self.new < to_ask self.old) }
+        ensures ok { OnOk result (KeepsFlow self.old self.new × (to_ask self.new < to_ask self.old)) }
+        ensures err { OnErr result (LostFlow self.old self.new) }
     {
         let whole = (self.at / 8) as usize;
-        let mut count = match self.source.pass(whole) {
-            Ok(count) => count,
-            Err(SourceFailed) => return Err(Missing::Read),
-        };
+        let mut count = self.source.pass(whole)?;
         if count == 0 {
-            self.ended = true; // though it has lent them
-            count = whole;
+            count = whole; // it has lent them
         }
         self.lent -= count;
         self.before += count as u64;
@@ -284,7 +329,7 @@ impl<S: Source> Inflow<S> {
 
     /// Takes bytes that are lent into the carry; or pulls some, if they are lent no more.
     fn take_lent(&mut self) -> Result<(), Missing>
-        requires few { length self.old.carry ≤ 8 }
+        requires few { carried_of self.old < 32 }
         requires low { self.old.at < 8 }
         requires some { 0 < self.old.lent }
         requires going { self.old.ended ≡ false }
@@ -300,8 +345,7 @@ impl<S: Source> Inflow<S> {
             Err(SourceFailed) => return Err(Missing::Read),
         };
         if count == 0 {
-            self.ended = true; // though it has lent them
-            count = copied;
+            count = copied; // it has lent them
         }
         self.held += count;
         self.lent -= count;
@@ -310,7 +354,7 @@ impl<S: Source> Inflow<S> {
 
     /// Looks for bytes that are lent, and pulls some if there are none.
     fn more(&mut self) -> Result<(), Missing>
-        requires few { length self.old.carry ≤ 8 }
+        requires few { carried_of self.old < 32 }
         requires low { self.old.at < 8 }
         requires none { self.old.lent ≡ 0 }
         requires some { taken_of self.old < stop_of self.old }
@@ -333,7 +377,7 @@ impl<S: Source> Inflow<S> {
 
     /// Pulls bytes of the stream into the carry.
     fn pull(&mut self) -> Result<(), Missing>
-        requires few { length self.old.carry ≤ 8 }
+        requires few { carried_of self.old < 32 }
         requires low { self.old.at < 8 }
         requires some { taken_of self.old < stop_of self.old }
         requires going { self.old.ended ≡ false }
@@ -343,11 +387,12 @@ impl<S: Source> Inflow<S> {
         let room = self.end.min(self.limit) - (self.before + self.held as u64);
         let most = CARRY.min(self.held + room as usize);
         match self.source.pull(&mut self.carry[self.held..most]) {
-            Ok(0) => {
+            Ok(0) if self.lent == 0 => {
                 self.ended = true; // and is not asked again
                 Err(Missing::End)
             }
             Ok(count) => {
+                let count = count.max(1); // it has lent a byte
                 self.held += count;
                 self.lent = self.lent.saturating_sub(count);
                 Ok(())
@@ -358,7 +403,7 @@ impl<S: Source> Inflow<S> {
 
     /// At the limit on bytes, or at the end that a wrapper named: whether the input goes on past the limit.
     fn past(&mut self) -> Missing
-        requires few { length self.old.carry ≤ 8 }
+        requires few { carried_of self.old < 32 }
         requires low { self.old.at < 8 }
         requires none { self.old.lent ≡ 0 }
         requires stop { stop_of self.old ≤ taken_of self.old }
@@ -393,10 +438,10 @@ impl<S: Source> Inflow<S> {
         ensures below { IfOk result (λ value. value < 2 ^ n) }
     {
         loop {
-            if let Some(value) = self.take(n) {
-                return Ok(value);
+            match self.take(n) {
+                Some(value) => return Ok(value),
+                None => self.ask()?,
             }
-            self.ask()?;
         }
     }
 

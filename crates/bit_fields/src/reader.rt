@@ -92,7 +92,7 @@ impl<S: Source> BitReader<S> {
         }
         let wrapper = self.wrapper()?;
         // the gap begins here, at or before the end of the input
-        let _start = self.position;
+        let _start = self.position();
         self.gap(wrapper.offset)?;
         self.end_after(wrapper.offset, wrapper.size);
         let magic = self.inner_magic()?;
@@ -535,9 +535,13 @@ impl<S: Source> BitReader<S> {
             return Err(Fault::Failed);
         }
         let first = self.position;
+        self.inflow.is_flow();
         match self.inflow.wait() {
             Ok(_) => Ok(false),
-            Err(Missing::End) => Ok(true),
+            Err(Missing::End) => {
+                self.inflow.is_flow();
+                Ok(true)
+            }
             Err(Missing::Limit) => Err(self.miss(Missing::Limit, first)),
             Err(Missing::Read) => Err(self.miss(Missing::Read, first)),
         }
