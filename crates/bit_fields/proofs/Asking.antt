@@ -15,14 +15,14 @@ use Rattle.bit_fields.proofs.InflowLaws.{Spends-refl, Spends-trans, fails_later,
 
 -- ---- the source of a flow
 
-known_so : (f : Flow) (i : Incoming) → f.incoming ≡ lending f.lent i → IsKnown f → IsSome (lending f.lent i).to_come
+pub known_so : (f : Flow) (i : Incoming) → f.incoming ≡ lending f.lent i → IsKnown f → IsSome (lending f.lent i).to_come
 known_so f i is k = subst (λ (x : Incoming). IsSome x.to_come) is k
 
-bytes_so : (f : Flow) (i : Incoming) → f.incoming ≡ lending f.lent i → IsKnown f → known_bytes f.incoming.to_come ≡ known_bytes i.to_come
+pub bytes_so : (f : Flow) (i : Incoming) → f.incoming ≡ lending f.lent i → IsKnown f → known_bytes f.incoming.to_come ≡ known_bytes i.to_come
 bytes_so f i is k = ap (λ (x : Incoming). known_bytes x.to_come) is ∙ lent_bytes f.lent i (known_so f i is k)
 
 -- the bits after bytes that were read
-moved_bits : (t x y : List ℕ) (stop before at count : ℕ) → length t ≡ count → x ≡ t ++ y → count ≤ stop - before → 8 * count ≤ at → drop (at - 8 * count) (bits_of_bytes (take (stop - (before + count)) y)) ≡ drop at (bits_of_bytes (take (stop - before) x))
+pub moved_bits : (t x y : List ℕ) (stop before at count : ℕ) → length t ≡ count → x ≡ t ++ y → count ≤ stop - before → 8 * count ≤ at → drop (at - 8 * count) (bits_of_bytes (take (stop - (before + count)) y)) ≡ drop at (bits_of_bytes (take (stop - before) x))
 moved_bits t x y stop before at count len parts few past =
     let room : stop - before - length t ≡ stop - (before + count) = omega (arith, len) in
     let place : at - 8 * length t ≡ at - 8 * count = omega (arith, len) in
@@ -32,8 +32,8 @@ moved_bits t x y stop before at count len parts few past =
 -- ---- bytes that are lent and read are taken
 
 not_true : (b : Bool) → (b ≡ true → ⊥) → b ≡ false
-not_true true no = absurd (no refl)
-not_true false no = refl
+not_true true never = absurd (never refl)
+not_true false never = refl
 
 -- a source that is at its end lends none
 pub going_so : (f : Flow) → IsFlow f → f.carry ≡ [] → 8 ≤ f.at → f.ended ≡ false
@@ -99,7 +99,7 @@ passes_unseen f i j most count is was empty going most_is low zero_given gave g 
         end = refl;
         limit = refl;
         place = omega (arith, read);
-        spends = rw is (spends_lent i j f.lent (f.lent - most) (f.limit + 1 - taken_of f) after (gave_spends i j 0 gave.into (f.limit + 1 - taken_of f) after given (omega (arith, one)) (omega (arith, begun, none, one, was.limit))) still);
+        spends = rw (going, is) (spends_lent i j f.lent (f.lent - most) (f.limit + 1 - taken_of f) after (gave_spends i j 0 gave.into (f.limit + 1 - taken_of f) after given (omega (arith, one)) (omega (arith, begun, none, one, was.limit))) still);
         left = λ k. absurd (not_known k);
         total = λ k. absurd (not_known k);
       },
@@ -142,11 +142,19 @@ lost f i j is was going within none =
 
 -- ---- bytes of the carry are dropped
 
+-- the bytes of which all bits are read are in the carry
+pub whole_held : (f : Flow) → IsFlow f → (f.carry ≡ [] → f.at < 8) → f.at / 8 ≤ length f.carry
+whole_held f was low = enough f.carry refl
+  where
+    enough : (c : List ℕ) → f.carry ≡ c → f.at / 8 ≤ length f.carry
+    enough [] none = omega (arith, low none)
+    enough (b ∷ c) is = omega (arith, was.carried (omega (arith, ap length is)))
+
 pub drops : (f : Flow) (whole : ℕ) (rest : List ℕ) → IsFlow f → whole ≡ f.at / 8 → (f.carry ≡ [] → f.at < 8) → rest ≡ drop whole f.carry
     → (g : Flow) → g ≡ record f { carry = rest; at = f.at - 8 * whole; before = f.before + whole } → Drops f g × IsFlow g
 drops f whole rest was whole_is low rest_is g g_is =
     let read : 8 * whole ≤ f.at = omega (arith, whole_is) in
-    let there : whole ≤ length f.carry = enough f.carry refl in
+    let there : whole ≤ length f.carry = omega (arith, whole_is, whole_held f was low) in
     let len : length rest ≡ length f.carry - whole = ap length rest_is ∙ length-drop whole f.carry in
     let begun : f.before + whole ≤ stop_of f = omega (arith, read, was.place, was.begun) in
     let known : List ℕ = known_bytes f.incoming.to_come in
@@ -175,10 +183,6 @@ drops f whole rest was whole_is low rest_is g g_is =
         ended = λ e. ((was.ended e).0, omega (arith, (was.ended e).1, len, there), (was.ended e).2);
       },
     )
-  where
-    enough : (c : List ℕ) → f.carry ≡ c → whole ≤ length f.carry
-    enough [] none = omega (arith, low none, whole_is)
-    enough (b ∷ c) is = omega (arith, was.carried (omega (arith, ap length is)), whole_is)
 
 pub dropped_so : (f g : Flow) → Drops f g → KeepsFlow f g × (carried_of g ≡ carried_of f)
 dropped_so f g d =
@@ -274,7 +278,7 @@ pulled_unseen f i j count into is going low free within zero_given lent room gav
     }
 
 -- bytes that a source shows, and the front of what it has
-shown_front : (o : Option (List ℕ)) (shown : List ℕ) → Begins o shown → IsSome o → take (length shown) (known_bytes o) ≡ shown
+pub shown_front : (o : Option (List ℕ)) (shown : List ℕ) → Begins o shown → IsSome o → take (length shown) (known_bytes o) ≡ shown
 shown_front None shown front known = absurd cc
 shown_front (Some all) shown front known = front
 
@@ -386,7 +390,7 @@ ends_here f i j count into is was going none_lent le zero_given room gave g g_is
           end = refl;
           limit = refl;
           place = refl;
-          spends = rw is (spends_lent i j f.lent f.lent (f.limit + 1 - taken_of f) 0 (gave_spends i j 0 into (f.limit + 1 - taken_of f) 0 given (omega arith) (omega (arith, le))) still);
+          spends = rw (going, is) (spends_lent i j f.lent f.lent (f.limit + 1 - taken_of f) 0 (gave_spends i j 0 into (f.limit + 1 - taken_of f) 0 given (omega arith) (omega (arith, le))) still);
           left = λ k. ap (λ (b : List ℕ). drop f.at (bits_of_bytes (take (stop_of f - f.before) (f.carry ++ b)))) (after ∙ sym (before k));
           total = λ k. omega (arith, ap length after, ap length (before k));
         };
@@ -413,7 +417,7 @@ goes_past f i j count into is was going none_lent low few at le lt some one gave
           end = refl;
           limit = refl;
           place = refl;
-          spends = rw is (spends_lent i j f.lent f.lent (f.limit + 1 - taken_of f) after (gave_spends i j 1 into (f.limit + 1 - taken_of f) after given (omega (arith, len, le)) (omega (arith, len, le))) still);
+          spends = rw (going, is) (spends_lent i j f.lent f.lent (f.limit + 1 - taken_of f) after (gave_spends i j 1 into (f.limit + 1 - taken_of f) after given (omega (arith, len, le)) (omega (arith, len, le))) still);
           left = λ k. ap (λ (b : List ℕ). drop f.at (bits_of_bytes (take (stop_of f - f.before) b))) (append_assoc f.carry (take 1 into) (known_bytes (lending f.lent j).to_come) ∙ ap (λ (b : List ℕ). f.carry ++ b) (sym (bytes k)));
           total = λ k. omega (arith, len, ap length (bytes k), length-append (take 1 into) (known_bytes (lending f.lent j).to_come), length-take-le 1 into given.fits);
         };

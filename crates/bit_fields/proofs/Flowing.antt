@@ -11,7 +11,7 @@ use Rattle.bit_fields.specs.Devices.{Incoming, Begins, Gave, GaveUnseen, Looked,
 use Rattle.bit_fields.specs.Placed.{IsFront, bits_at}
 use Rattle.bit_fields.specs.declared.inflow.Missing.{Missing}
 use Rattle.bit_fields.specs.declared.inflow.Missing.TheVariants.{End, Limit, Read}
-use Rattle.bit_fields.specs.Inflow.{Flow, lending, IsKnown, stop_of, place_of, taken_of, flow_bits, total_of, budget_of, carried_of, there_of, IsFlow, KeepsFlow, LooksOn, Shows, Advances, TakesBits, Lacks, Asks, RunsOut, FailsFirst, Misses, Waits, Skips, Shortens, IsSettled, Settles, HandsOver, Draining, Drained, Overran, to_ask}
+use Rattle.bit_fields.specs.Inflow.{Flow, lending, IsKnown, stop_of, place_of, taken_of, flow_bits, total_of, budget_of, carried_of, there_of, IsFlow, Copies, KeepsFlow, LooksOn, Shows, Advances, TakesBits, Lacks, Asks, RunsOut, FailsFirst, Misses, Waits, Skips, Shortens, IsSettled, Settles, HandsOver, Draining, Drained, Overran, to_ask}
 use Rattle.bit_fields.proofs.BitLaws.{bits_of_bytes-append, bits_of_bytes-take, length-bits_of_bytes, drop_more, take_whole}
 use Rattle.bit_fields.proofs.InflowLaws.{Spends-refl, Spends-trans, Spends-none, fails_later, kept, at_end, came, gave_spends, Keeps-trans, looks_on, lent_known, lent_bytes, lent_after, lent_at_end, looked_lent, StillLent, spends_lent, none_fails}
 use Rattle.bit_fields.proofs.Asking.{known_so, bytes_so, moved_bits, shown_front, carried_on}
@@ -82,6 +82,47 @@ carry_same held count old new shown there is =
     let len : length (take held old) ≡ held = length-take-le held old there in
     sym (take-take held (held + count) new (omega arith)) ∙ ap (take held) is ∙ take-append-le held (take held old) shown (omega (arith, len)) ∙ take_whole held (take held old) (omega (arith, len))
 
+-- the front of what is shown is shown
+begins_front : (o : Option (List ℕ)) (shown : List ℕ) (count : ℕ) → count ≤ length shown → Begins o shown → Begins o (take count shown)
+begins_front None shown count few front = tt
+begins_front (Some all) shown count few front =
+    let n : length (take count shown) ≡ count = length-take-le count shown few in
+    ap (λ (m : ℕ). take m all) n ∙ sym (take-take count (length shown) all (omega (arith, few))) ∙ ap (take count) front
+
+-- bits where the source lends them
+pub shows_lent : (f : Flow) (i j : Incoming) (bytes : List ℕ) (count : ℕ) → f.incoming ≡ lending f.lent i → IsFlow f → f.carry ≡ [] → 0 < f.lent → Looked i j → Begins i.to_come bytes → count ≡ min f.lent (length bytes) → (b : BufferedBits) → b ≡ bits_at (8 * f.before) f.at (take count bytes) → (g : Flow) → g ≡ record f { incoming = lending f.lent j } → Shows f b g
+shows_lent f i j bytes count is was empty some looked front count_is b b_is g g_is =
+    let few : count ≤ length bytes = omega (arith, count_is) in
+    let len : length (take count bytes) ≡ count = length-take-le count bytes few in
+    let room : count ≤ stop_of f - f.before = omega (arith, count_is, was.within some, ap length empty) in
+    let t_is : take count bytes ≡ take (stop_of f - f.before) (f.carry ++ take count bytes) = sym (ap (λ (c : List ℕ). take (stop_of f - f.before) (c ++ take count bytes)) empty ∙ take_whole (stop_of f - f.before) (take count bytes) (omega (arith, len, room))) in
+    subst (λ (x : BufferedBits). Shows f x g) (sym b_is) (shows_so f i j (take count bytes) (take count bytes) is looked (begins_front i.to_come bytes count few front) (omega (arith, len, count_is)) t_is g g_is)
+
+-- bits in the carry, and behind them some that are lent
+pub shows_joined : (f : Flow) (i j : Incoming) (held count filled : ℕ) (old new : List ℕ) → f.incoming ≡ lending f.lent i → f.carry ≡ take held old → held ≤ length old → Looked i j → count ≤ f.lent → Copies i.to_come held count old new → filled ≡ min (stop_of f - f.before) (held + count) → (b : BufferedBits) → b ≡ bits_at (8 * f.before) f.at (take filled new)
+    → (carry : List ℕ) → carry ≡ take held new → (g : Flow) → g ≡ record f { carry = carry; incoming = lending f.lent j } → Shows f b g
+shows_joined f i j held count filled old new is carry_is there looked few copies filled_is b b_is carry after g g_is =
+    let same : carry ≡ f.carry = after ∙ carry_same held count old new copies.shown there copies.is ∙ sym carry_is in
+    let t_is : take filled new ≡ take (stop_of f - f.before) (f.carry ++ copies.shown) = carry_shown (stop_of f - f.before) held count filled old new copies.shown there copies.long copies.is filled_is ∙ ap (λ (c : List ℕ). take (stop_of f - f.before) (c ++ copies.shown)) (sym carry_is) in
+    let g_same : g ≡ record f { incoming = lending f.lent j } = g_is ∙ ap (λ (c : List ℕ). with_carry c) same in
+    subst (λ (x : BufferedBits). Shows f x g) (sym b_is) (shows_so f i j copies.shown (take filled new) is looked copies.front (omega (arith, copies.long, few)) t_is g g_same)
+  where
+    abbrev with_carry : List ℕ → Flow
+    with_carry c = record f { carry = c; incoming = lending f.lent j }
+
+-- a source that is looked at keeps the invariant; at its end it is not called
+pub looked_flow : (f : Flow) (i j : Incoming) → f.incoming ≡ lending f.lent i → IsFlow f → (f.lent ≡ 0 → j ≡ i) → (carry : List ℕ) → carry ≡ f.carry → IsFlow (record f { carry = carry; incoming = lending f.lent j })
+looked_flow f i j is was same carry carry_is = rw carry_is (record {
+  held = was.held;
+  begun = was.begun;
+  place = was.place;
+  carried = was.carried;
+  within = was.within;
+  taken = was.taken;
+  limit = was.limit;
+  ended = λ e. (subst (λ (x : Incoming). IsAtEnd (lending f.lent x).to_come) (sym (same (was.ended e).2)) (subst (λ (x : Incoming). IsAtEnd x.to_come) is (was.ended e).0), (was.ended e).1, (was.ended e).2);
+})
+
 -- ---- bits that are read
 
 pub advances_on : (n : ℕ) (f : Flow) → n ≤ there_of f → IsFlow f → (0 < length f.carry → f.at + n < 8 * length f.carry) → (g : Flow) → g ≡ record f { at = f.at + n } → Advances n f g × IsFlow g
@@ -100,11 +141,10 @@ advances_on n f there was within g g_is = rw g_is (
   record { held = was.held; begun = was.begun; place = omega (arith, there, was.place); carried = within; within = was.within; taken = was.taken; limit = was.limit; ended = was.ended },
 )
 
-pub advances_past : (n : ℕ) (f : Flow) → n ≤ there_of f → IsFlow f → 8 * length f.carry ≤ f.at + n → (g : Flow) → g ≡ record f { carry = []; at = f.at + n - 8 * length f.carry; before = f.before + length f.carry } → Advances n f g × IsFlow g
-advances_past n f there was past g g_is =
-    let held : ℕ = length f.carry in
+pub advances_past : (n held : ℕ) (f : Flow) → n ≤ there_of f → IsFlow f → length f.carry ≡ held → 8 * held ≤ f.at + n → (g : Flow) → g ≡ record f { carry = []; at = f.at + n - 8 * held; before = f.before + held } → Advances n f g × IsFlow g
+advances_past n held f there was len past g g_is =
     let known : List ℕ = known_bytes f.incoming.to_come in
-    let taken : f.before + held + 0 ≡ f.before + held = omega arith in
+    let taken : f.before + held + 0 ≡ taken_of f = omega (arith, len) in
     let begun : f.before + held ≤ stop_of f = omega (arith, past, there, was.place, was.begun) in
     rw g_is (
       record {
@@ -112,21 +152,21 @@ advances_past n f there was past g g_is =
         end = refl;
         limit = refl;
         place = omega (arith, past);
-        there = omega (arith, there, past, was.begun);
+        there = omega (arith, there, past, was.begun, len);
         small = omega (arith, there, was.place, was.begun, was.limit, past);
         budget = ap (λ (t : ℕ). if f.ended then 0 else (f.limit + 1 - t)) taken;
-        left = moved_bits f.carry (f.carry ++ known) known (stop_of f) f.before (f.at + n) held refl refl (omega (arith, begun)) past ∙ sym (drop_more f.at n (bits_of_bytes (take (stop_of f - f.before) (f.carry ++ known))));
-        total = omega arith;
+        left = moved_bits f.carry (f.carry ++ known) known (stop_of f) f.before (f.at + n) held len refl (omega (arith, begun)) past ∙ sym (drop_more f.at n (bits_of_bytes (take (stop_of f - f.before) (f.carry ++ known))));
+        total = omega (arith, len);
       },
       record {
         held = omega arith;
         begun = begun;
-        place = omega (arith, there, was.place, past, begun);
+        place = omega (arith, there, was.place, past, begun, len);
         carried = λ some. absurd (omega (arith, some));
-        within = λ some. omega (arith, was.within some);
-        taken = omega (arith, was.taken);
+        within = λ some. omega (arith, was.within some, len);
+        taken = omega (arith, was.taken, len);
         limit = was.limit;
-        ended = λ e. ((was.ended e).0, omega (arith, (was.ended e).1), (was.ended e).2);
+        ended = λ e. ((was.ended e).0, omega (arith, (was.ended e).1, len), (was.ended e).2);
       },
     )
 

@@ -46,7 +46,7 @@ pub struct Inflow<S: Source> {
 }
 
 impl<S: Source> Model for Inflow<S> {
-    ghost use Rattle.std.specs.Prelude.{take, ◌≤◌};
+    ghost use Rattle.std.specs.Prelude.{take, length, ◌≡◌};
     ghost use Rattle.bit_fields.specs.Inflow.{Flow, IsFlow, lending};
 
     ghost Value = { Flow };
@@ -71,7 +71,7 @@ impl<S: Source> Model for Inflow<S> {
       end = f.end;
       limit = f.limit;
       ended = f.ended;
-    }) × (f.held ≤ 64) };
+    }) × (length (take f.held f.carry) ≡ f.held) };
 }
 
 /// Copies bytes that are lent, at most `most`, into a carry behind the `held` bytes that it has, and returns how many.
@@ -244,9 +244,9 @@ impl<S: Source> Inflow<S> {
     {
         if self.held > 0 {
             self.advance_carry(bits);
-        } else {
-            self.at += bits;
+            return;
         }
+        self.at += bits;
     }
 
     /// The same in the carry, and goes on behind it if all of its bytes are read.
@@ -259,11 +259,11 @@ impl<S: Source> Inflow<S> {
         let held = 8 * self.held as u64;
         if at < held {
             self.at = at;
-        } else {
-            self.at = at - held;
-            self.before += self.held as u64;
-            self.held = 0;
+            return;
         }
+        self.at = at - held;
+        self.before += self.held as u64;
+        self.held = 0;
     }
 
     /// Asks the source for more bytes, since those that are there do not suffice: once, or less if some that it lends are not taken.
@@ -386,19 +386,22 @@ impl<S: Source> Inflow<S> {
     {
         let room = self.end.min(self.limit) - (self.before + self.held as u64);
         let most = CARRY.min(self.held + room as usize);
-        match self.source.pull(&mut self.carry[self.held..most]) {
-            Ok(0) if self.lent == 0 => {
-                self.ended = true; // and is not asked again
-                Err(Missing::End)
-            }
-            Ok(count) => {
-                let count = count.max(1); // it has lent a byte
-                self.held += count;
-                self.lent = self.lent.saturating_sub(count);
-                Ok(())
-            }
-            Err(SourceFailed) => Err(Missing::Read),
+        let count = match self.source.pull(&mut self.carry[self.held..most]) {
+            Ok(count) => count,
+            Err(SourceFailed) => return Err(Missing::Read),
+        };
+        if count > 0 {
+            self.held += count;
+            self.lent = self.lent.saturating_sub(count);
+            return Ok(());
         }
+        if self.lent > 0 {
+            self.held += 1; // a byte that it has lent
+            self.lent -= 1;
+            return Ok(());
+        }
+        self.ended = true; // and is not asked again
+        Err(Missing::End)
     }
 
     /// At the limit on bytes, or at the end that a wrapper named: whether the input goes on past the limit.
@@ -416,17 +419,16 @@ impl<S: Source> Inflow<S> {
         if self.before + self.held as u64 > self.limit {
             return Missing::Limit;
         }
-        match self.source.pull(&mut self.carry[self.held..self.held + 1]) {
-            Ok(0) => {
-                self.ended = true;
-                Missing::End
-            }
-            Ok(_) => {
-                self.held += 1;
-                Missing::Limit
-            }
-            Err(SourceFailed) => Missing::Read,
+        let count = match self.source.pull(&mut self.carry[self.held..self.held + 1]) {
+            Ok(count) => count,
+            Err(SourceFailed) => return Missing::Read,
+        };
+        if count == 0 {
+            self.ended = true;
+            return Missing::End;
         }
+        self.held += 1;
+        Missing::Limit
     }
 
     /// Takes the number of the first n bits, and asks the source while they are not there.
@@ -475,9 +477,11 @@ impl<S: Source> Inflow<S> {
         ensures shortens { Shortens end self.old self.new }
         ensures limit { self.old.limit < 2 ^ 35 }
     {
+        let stop = end.min(self.limit);
+        let room = stop.saturating_sub(self.before + self.held as u64);
+        let lent = self.lent.min(room as usize);
         self.end = end;
-        let room = self.end.min(self.limit).saturating_sub(self.before + self.held as u64);
-        self.lent = self.lent.min(room as usize);
+        self.lent = lent;
     }
 
     /// Takes all bytes that the source still has. Nothing is read any more.

@@ -1,4 +1,4 @@
-use Rattle.std.proofs.Common.{subst, sym, arith}
+use Rattle.std.proofs.Common.{◌≡◌, ◌<◌, Ok, Err, subst, sym, arith}
 use Rattle.bit_fields.specs.Inflow.{Flow, carried_of}
 use Rattle.bit_fields.proofs.Asking.{stops_again, dropped_so, asks_after}
 use Rattle.bit_fields.proofs.inflow.Inflow.ask.Goals as goal
