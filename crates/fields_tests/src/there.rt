@@ -3,7 +3,9 @@
 ghost use Rattle.std.specs.Prelude.{◌≤◌};
 
 use crate::chopped::{after_magic, in_steps, reader_of, shown_source};
-use bit_fields::{BitReader, ChunkWidth, Fault, FieldWidth, Limits, PlacedBits, SliceSource, Source};
+use bit_fields::{
+    BitReader, ChunkWidth, Fault, FieldWidth, Limits, PlacedBits, SliceSource, Source,
+};
 use std::process::Abort;
 
 /// Bits of every kind of field; numbers of one chunk, of few and of many.
