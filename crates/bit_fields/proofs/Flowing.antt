@@ -57,16 +57,6 @@ shows_so f i j shown t is looked front few t_is g g_is =
       carried = omega (arith, bits, len);
     }
 
--- no bits, where nothing that is unread is lent
-pub shows_none : (f : Flow) → IsFlow f → f.carry ≡ [] → Shows f (record { position = 8 * f.before + f.at; bits = [] }) f
-shows_none f was empty = record {
-  looks = record { same = refl; looked = looked_same f.incoming };
-  position = refl;
-  front = λ k. (flow_bits f, refl);
-  there = omega arith;
-  carried = omega (arith, ap length empty, was.begun);
-}
-
 -- what a carry shows behind which bytes were copied
 pub carry_shown : (room held count filled : ℕ) (old new shown : List ℕ) → held ≤ length old → length shown ≡ count → take (held + count) new ≡ take held old ++ shown → filled ≡ min room (held + count) → take filled new ≡ take room (take held old ++ shown)
 carry_shown room held count filled old new shown there long is filled_is =

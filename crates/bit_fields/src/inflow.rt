@@ -196,13 +196,33 @@ impl<S: Source> Inflow<S> {
         ensures* shows { sem 𝓛 (Rests (the_row S.row S.Source) self.entry
             (λ new. Shows self.old (placed result) new)) }
     {
+        if self.is_in_place() {
+            self.in_place()
+        } else {
+            self.joined()
+        }
+    }
+
+    /// Whether the carry is empty, and the source lends bits that are not read.
+    #[inline(always)]
+    fn is_in_place(&self) -> bool
+        ensures { result ≡ true → (self.now.carry ≡ []) × (self.now.at < 8 * self.now.lent) }
+    {
         if self.held > 0 {
-            return self.joined();
+            return false;
         }
+        self.at < 8 * self.lent as u64
+    }
+
+    /// The bits that the source lends.
+    #[inline(always)]
+    fn in_place(&mut self) -> PlacedBits<'_>
+        requires empty { self.old.carry ≡ [] }
+        requires some { self.old.at < 8 * self.old.lent }
+        ensures* shows { sem 𝓛 (Rests (the_row S.row S.Source) self.entry
+            (λ new. Shows self.old (placed result) new)) }
+    {
         let (start, at, lent) = (8 * self.before, self.at, self.lent);
-        if 8 * lent as u64 <= at {
-            return PlacedBits::none(start + at);
-        }
         let bytes = self.source.lend();
         PlacedBits::at_most(&bytes[..lent.min(bytes.len())], start, at)
     }
