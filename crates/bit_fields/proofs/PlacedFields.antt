@@ -7,7 +7,9 @@ use Rattle.std.proofs.Math.Seq.{take-append-add}
 use Rattle.bit_grammar.specs.Bits.{bits_of, bits_of_bytes, number}
 use Rattle.bit_grammar.specs.Grammar.{repeat, reading}
 use Rattle.bit_grammar.specs.Fields.{fixed, vbr, align32, padding_length}
-use Rattle.bit_fields.specs.Buffered.{BufferedBits, Reads, beyond}
+use Rattle.bit_fields.specs.Buffered.{BufferedBits, Reads, reader_at, beyond}
+use Rattle.bit_fields.specs.Reader.{Took}
+use Rattle.bit_fields.proofs.BufferedReads.{reads_took}
 use Rattle.bit_fields.specs.Inside.{part_of, numbers}
 use Rattle.bit_fields.specs.Placed.{HasNumbers, IsFront, bits_at}
 use Rattle.bit_fields.proofs.BitLaws.{length-bits_of_bytes, bits_of_bytes-append, take-bits_of, drop-bits_of, number-bits_mod, take_whole, bytes_dropped, left_after}
@@ -34,6 +36,11 @@ pub front_part : (n first value : ℕ) (a : BufferedBits) → IsFront n a value 
 front_part n first value a front =
     ap (reading (part_of first n) a.position) (sym (append-nil a.bits)) ∙ part_at n first a.position a.bits [] front.there
     ∙ ap (λ (s : List Bool). Ok (number (take n a.bits), a.position + n, s)) (append-nil (drop n a.bits)) ∙ ap (λ (v : ℕ). Ok (v, a.position + n, drop n a.bits)) (sym front.is)
+
+pub front_took : (n first value : ℕ) (a b : BufferedBits) → IsFront n a value → b ≡ beyond a n → Took (part_of first n) (reader_at a) value (reader_at b)
+front_took n first value a b front b_is =
+    let on : a.position ≤ b.position = omega (arith, ap (λ (x : BufferedBits). x.position) b_is) in
+    reads_took (part_of first n) a value b (subst (Reads (part_of first n) a value) (sym b_is) (front_part n first value a front)) on
 
 pub front_pads : (n value : ℕ) (a b : BufferedBits) → n ≡ padding_length a.position → IsFront n a value → value ≡ 0 → b ≡ beyond a n → Reads align32 a tt b
 front_pads n value a b n_is front none b_is = rw b_is (pad_reads n value a (beyond a n) n_is (front_part n a.position value a front) none)
