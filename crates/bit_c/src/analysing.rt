@@ -12,6 +12,7 @@ use crate::outcome::{BsFault, Outcome};
 use crate::room::put;
 use bit_fields::{Limits, SliceSource};
 use bit_scan::{Analysis, BlockRow, Codes, analyse};
+use indexmap::IndexMap;
 use std::alloc::{AllocError, Global};
 
 /// The totals of a stream, and the numbers of rows of its analysis. All zeros if there is no analysis.
@@ -71,13 +72,13 @@ fn block_row(id: u32, row: &BlockRow) -> BsBlockRow
         records: row.records,
         abbreviated: row.abbreviated,
         values: row.values,
-        codes: row.codes.rows().len(),
+        codes: row.codes.0.len(),
     }
 }
 
 /// The rows of block ids, as C sees them.
-fn block_rows(alloc: Global, rows: &[(u32, BlockRow)]) -> Result<Vec<BsBlockRow>, AllocError>
-    ensures { IfOk result (λ out. out.items ≡ map row_told (block_tallies rows.now)) }
+fn block_rows(alloc: Global, rows: &IndexMap<u32, BlockRow>) -> Result<Vec<BsBlockRow>, AllocError>
+    ensures { IfOk result (λ out. out.items ≡ map row_told (block_tallies rows.now.entries)) }
 {
     let mut out = Vec::new(alloc);
     for (id, row) in rows.iter() {
@@ -91,7 +92,7 @@ fn add_codes(out: &mut Vec<BsCodeRow>, codes: &Codes) -> Result<(), AllocError>
     ensures { OnOk result
         (out.new.items ≡ out.old.items ++ map code_told (code_tallies codes.now)) }
 {
-    for (code, row) in codes.rows().iter() {
+    for (code, row) in codes.0.iter() {
         out.push(BsCodeRow {
             code: *code,
             count: row.count,
@@ -102,8 +103,8 @@ fn add_codes(out: &mut Vec<BsCodeRow>, codes: &Codes) -> Result<(), AllocError>
 }
 
 /// The rows of codes of all block ids, as C sees them.
-fn code_rows(alloc: Global, rows: &[(u32, BlockRow)]) -> Result<Vec<BsCodeRow>, AllocError>
-    ensures { IfOk result (λ out. out.items ≡ codes_told (block_tallies rows.now)) }
+fn code_rows(alloc: Global, rows: &IndexMap<u32, BlockRow>) -> Result<Vec<BsCodeRow>, AllocError>
+    ensures { IfOk result (λ out. out.items ≡ codes_told (block_tallies rows.now.entries)) }
 {
     let mut out = Vec::new(alloc);
     for (_, row) in rows.iter() {

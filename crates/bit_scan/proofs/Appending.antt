@@ -50,13 +50,13 @@ regrouped : (a b c d e f g h i j k l m n z : List ℕ)
     → (a ++ b ++ c ++ d ++ e ++ f ++ g ++ h ++ i ++ j ++ k ++ l ++ m ++ n) ++ z ≡ (a ++ b ++ c ++ d ++ e ++ f) ++ ((g ++ h ++ i ++ j) ++ (k ++ l ++ m ++ n ++ z))
 regrouped a b c d e f g h i j k l m n z = simp append_assoc
 
-block_parts : (e : ℕ × BlockRow) → block_row_text e ≡ block_start e ++ (block_middle e ++ block_end e)
+block_parts : {S H : Type 0} (e : ℕ × BlockRow S H) → block_row_text e ≡ block_start e ++ (block_middle e ++ block_end e)
 block_parts e =
     regrouped (codes "block ") (decimal e.0) (codes " count ") (decimal e.1.blocks) (codes " bits ") (decimal e.1.bits) (codes " definitions ") (decimal e.1.definitions) (codes " records ") (decimal e.1.records)
     (codes " abbreviated ") (decimal e.1.abbreviated) (codes " values ") (decimal e.1.values) (codes "\n")
 
 -- the three parts, one after the other
-pub all_parts : (e : ℕ × BlockRow) (r : Result (Unit {0}) AllocError) (old one two new : List ℕ) → one ≡ old ++ block_start e → two ≡ one ++ block_middle e → OnOk r (new ≡ two ++ block_end e) → OnOk r (new ≡ old ++ block_row_text e)
+pub all_parts : {S H : Type 0} (e : ℕ × BlockRow S H) (r : Result (Unit {0}) AllocError) (old one two new : List ℕ) → one ≡ old ++ block_start e → two ≡ one ++ block_middle e → OnOk r (new ≡ two ++ block_end e) → OnOk r (new ≡ old ++ block_row_text e)
 all_parts e (Ok x) old one two new first second third =
     third ∙ ap (λ (l : List ℕ). l ++ block_end e) (second ∙ ap (λ (l : List ℕ). l ++ block_middle e) first) ∙ joined old (block_start e) (block_middle e) (block_end e) ∙ ap (λ (l : List ℕ). old ++ l) (sym (block_parts e))
   where

@@ -6,7 +6,6 @@ pub mod Changes
 pub mod Changing
 pub mod Exact
 pub mod Forwards
-pub mod Indexing
 pub mod Joined
 pub mod Lists
 pub mod OpenBlocks
@@ -23,7 +22,6 @@ pub mod Showings
 pub mod Parted
 pub mod PassedRows
 pub mod Tellings
-pub mod Walks
 pub mod Noted
 pub mod Objects
 pub mod Determined

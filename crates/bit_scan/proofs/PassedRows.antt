@@ -1,11 +1,11 @@
 -- Records that are passed over, counted in the row of the innermost open block.
-use Rattle.std.proofs.Common.{◌≡◌, ℕ, ◌-◌, ◌<◌, zero, suc, Bool, true, false, List, [], ◌∷◌, ◌++◌, length, map, Some, Result, Ok, Err, refl, sym, ap, ◌∙◌, subst, slice_get, if◌then◌else◌, ◌==◌, leb, min, ◌+◌, MutBor, arith, take, drop}
-use Rattle.std.proofs.Math.ListN.{set}
+use Rattle.std.proofs.Common.{◌≡◌, ℕ, ◌-◌, ◌<◌, zero, suc, Bool, true, false, List, [], ◌∷◌, ◌++◌, length, map, Some, Result, Ok, Err, refl, sym, ap, ◌∙◌, subst, slice_get, if◌then◌else◌, ◌==◌, leb, min, ◌+◌, MutBor, arith}
 use Rattle.std.proofs.lemmas.Bool.{eq-eqb}
-use Rattle.std.proofs.lemmas.List.{take_at}
 use Rattle.std.proofs.lemmas.List.Sums.{sum_by-cons, sum_by_push}
-use Rattle.std.specs.Prelude.{OnOk, IfOk, sum_by}
+use Rattle.std.specs.Prelude.{OnOk, IfOk, nat_eq, sum_by}
+use Rattle.std.specs.List.{IsDistinct}
 use Rattle.std.specs.Map.{keys_of}
+use Rattle.indexmap.specs.Layout.{set_value_at}
 use Rattle.std.specs.declared.alloc.AllocError.{AllocError}
 use Rattle.bit_grammar.specs.Machine.{Event, notes}
 use Rattle.bit_grammar.specs.Marks.{RecordMark}
@@ -18,15 +18,12 @@ use Rattle.bit_events.specs.Passing.{mark_of, values_of}
 use Rattle.bit_scan.specs.CodesView.{code_tallies, with_use}
 use Rattle.bit_scan.specs.Counting.{open_count, open_counts}
 use Rattle.bit_scan.specs.Cut.{cut_code, cut_open, cut_row, cut_rows, capped_counts}
-use Rattle.bit_scan.specs.Indexed.{AreDistinct}
 use Rattle.bit_scan.specs.Rows.{block_tally, block_tallies, with_records, with_uses, with_run, plain_in, abbreviated_in, rows_after, with_codes, CountsInRow, CountsBehind}
 use Rattle.bit_scan.specs.declared.counter.CountedBlock.{CountedBlock}
-use Rattle.bit_scan.specs.declared.counter.Counter.{Counter}
 use Rattle.bit_scan.specs.declared.rows.BlockRow.{BlockRow}
 use Rattle.bit_scan.specs.declared.rows.CodeRow.{CodeRow}
 use Rattle.bit_scan.specs.declared.rows.RowCounter.{RowCounter}
 use Rattle.bit_scan.proofs.Changes.{records_at}
-use Rattle.bit_scan.proofs.Changing.{keys_length}
 use Rattle.bit_scan.proofs.Saturating.{sum_stops}
 use Rattle.bit_scan.proofs.OpenBlocks.{Last, the_last, open_push}
 
@@ -37,10 +34,10 @@ uses_then [] mark codes = refl
 uses_then (first ∷ done) mark codes = uses_then done mark (with_use first.code (record_bits first) codes)
 
 -- a record that was passed over is counted after others
-pub one_passed : (result : Result (Unit {0}) AllocError) (passed : CountedRecord) (old : RowCounter) (row : BlockRow) (places : MutBor (List ℕ)) (plain abbreviated : ℕ) → row ≡ with_codes row.codes old.row.now
+pub one_passed : {S H : Type 0} (result : Result (Unit {0}) AllocError) (passed : CountedRecord) (old : RowCounter S H) (row : BlockRow S H) (places : MutBor (List ℕ)) (plain abbreviated : ℕ) → row ≡ with_codes row.codes old.row.now
     → ((tallies : List CodeTally) → code_tallies old.row.now.codes ≡ map cut_code tallies → OnOk result (code_tallies row.codes ≡ map cut_code (with_use passed.code (passed.after - passed.first) tallies)))
     → plain ≡ min (old.plain + (if leb 4 passed.id then 0 else 1)) 18446744073709551615 → abbreviated ≡ min (old.abbreviated + (if leb 4 passed.id then 1 else 0)) 18446744073709551615
-    → OnOk result ((list : List ℕ) → length list ≡ passed.count → (first : RowCounter) (done : List RecordMark) → CountsBehind first done old
+    → OnOk result ((list : List ℕ) → length list ≡ passed.count → (first : RowCounter S H) (done : List RecordMark) → CountsBehind first done old
     → CountsBehind first (done ++ mark_of passed list ∷ []) (record { row = record old.row { now = row }; places = places; plain = plain; abbreviated = abbreviated }))
 one_passed (Err e) passed old row places plain abbreviated row_is used plain_is abbreviated_is = tt
 one_passed (Ok x) passed old row places plain abbreviated row_is used plain_is abbreviated_is = λ list many first done was.
@@ -57,7 +54,7 @@ one_passed (Ok x) passed old row places plain abbreviated row_is used plain_is a
     more mark n done f = omega (arith, sum_by_push f done mark)
 
 -- nothing was counted
-pub none_counted : (counter : RowCounter) → counter.plain < 18446744073709551616 → counter.abbreviated < 18446744073709551616 → CountsBehind counter [] counter
+pub none_counted : {S H : Type 0} (counter : RowCounter S H) → counter.plain < 18446744073709551616 → counter.abbreviated < 18446744073709551616 → CountsBehind counter [] counter
 none_counted counter few some = record {
   same = refl;
   row = refl;
@@ -111,7 +108,7 @@ shown_sums records tally id blocks bits definitions some abbreviated values code
     rw (one, two, three, four, five, six, seven, eight) (ap cut_row (sym (records_sums records tally)))
 
 -- the sums of a run were added to a row whose codes were counted
-run_counted : (records : List RecordMark) (old : BlockRow) (plain abbreviated values : ℕ) (codes : List (ℕ × CodeRow)) → plain ≡ saturated (plain_in records) → abbreviated ≡ saturated (abbreviated_in records) → values ≡ values_of records
+run_counted : {S H : Type 0} (records : List RecordMark) (old : BlockRow S H) (plain abbreviated values : ℕ) (codes : List (ℕ × CodeRow)) → plain ≡ saturated (plain_in records) → abbreviated ≡ saturated (abbreviated_in records) → values ≡ values_of records
     → ((tallies : List CodeTally) → code_tallies old.codes ≡ map cut_code tallies → code_tallies codes ≡ map cut_code (with_uses records tallies)) → CountsInRow old records (with_run plain abbreviated values (record old { codes = codes }))
 run_counted records old plain abbreviated values codes plain_is abbreviated_is values_are used id tally shown =
     let old_records : old.records ≡ saturated tally.records = ap (λ (x : BlockTally). x.records) shown in
@@ -124,14 +121,14 @@ run_counted records old plain abbreviated values codes plain_is abbreviated_is v
     (used tally.codes (ap (λ (x : BlockTally). x.codes) shown))
 
 -- the same for a row that is what the reference left behind
-pub row_counted : (records : List RecordMark) (first last : RowCounter) (room spare : ℕ) (new : MutBor BlockRow) (left : BlockRow) → CountsBehind first records last → first.plain ≡ 0 → first.abbreviated ≡ 0 → spare + values_of records ≡ room
+pub row_counted : {S H : Type 0} (records : List RecordMark) (first last : RowCounter S H) (room spare : ℕ) (new : MutBor (BlockRow S H)) (left : BlockRow S H) → CountsBehind first records last → first.plain ≡ 0 → first.abbreviated ≡ 0 → spare + values_of records ≡ room
     → new.ghost_name ≡ last.row.ghost_name → new.now ≡ with_run last.plain last.abbreviated (room - spare) last.row.now → (first.row.ghost_name ≡ new.ghost_name → left ≡ new.now) → CountsInRow first.row.now records left
-row_counted records first last room spare new left counted no_plain no_abbreviated fits same added is =
+row_counted {S} {H} records first last room spare new left counted no_plain no_abbreviated fits same added is =
     let plain_is : last.plain ≡ saturated (plain_in records) = omega (arith, counted.plain, no_plain) in
     let abbreviated_is : last.abbreviated ≡ saturated (abbreviated_in records) = omega (arith, counted.abbreviated, no_abbreviated) in
     let many : room - spare ≡ values_of records = omega (arith, fits) in
     let whole : left ≡ with_run last.plain last.abbreviated (room - spare) (with_codes last.row.now.codes first.row.now) = is (sym (same ∙ counted.same)) ∙ added ∙ ap (with_run last.plain last.abbreviated (room - spare)) counted.row in
-    subst (λ (row : BlockRow). CountsInRow first.row.now records row) (sym whole) (run_counted records first.row.now last.plain last.abbreviated (room - spare) last.row.now.codes plain_is abbreviated_is many counted.codes)
+    subst (λ (row : BlockRow S H). CountsInRow first.row.now records row) (sym whole) (run_counted records first.row.now last.plain last.abbreviated (room - spare) last.row.now.codes plain_is abbreviated_is many counted.codes)
 
 -- ---- rows
 
@@ -152,15 +149,16 @@ records_at_once mark (next ∷ records) id tallies =
     sym (change_twice (with_records (next ∷ records)) (one_record mark) (λ row. refl) id tallies) ∙ records_at_once next records id (with_row (one_record mark) id tallies)
 
 -- the row at a place shows what it showed
-shown_still : (es : List (ℕ × BlockRow)) (tallies : List BlockTally) (j i : ℕ) (old new : BlockRow) → ((tally : BlockTally) → block_tally (j, old) ≡ cut_row tally → block_tally (j, new) ≡ cut_row tally)
-    → slice_get es i ≡ Some (j, old) → block_tallies es ≡ cut_rows tallies → block_tallies (set es i (j, new)) ≡ cut_rows tallies
+shown_still : {S H : Type 0} (es : List (ℕ × BlockRow S H)) (tallies : List BlockTally) (j i : ℕ) (old new : BlockRow S H) → ((k : ℕ) (tally : BlockTally) → block_tally (k, old) ≡ cut_row tally → block_tally (k, new) ≡ cut_row tally)
+    → slice_get es i ≡ Some (j, old) → block_tallies es ≡ cut_rows tallies → block_tallies (set_value_at es i new) ≡ cut_rows tallies
 shown_still [] tallies j i old new step found shown = absurd cc
 shown_still (e ∷ es) [] j i old new step found shown = absurd cc
-shown_still (e ∷ es) (tally ∷ tallies) j zero old new step found shown =
+shown_still {S} {H} (e ∷ es) (tally ∷ tallies) j zero old new step found shown =
     let head : block_tally e ≡ cut_row tally = cc in
     let tail : block_tallies es ≡ cut_rows tallies = cc in
     let whole : e ≡ (j, old) = cc in
-    let first : block_tally (j, new) ≡ cut_row tally = step tally (ap block_tally (sym whole) ∙ head) in
+    let value : e.1 ≡ old = ap (λ (x : ℕ × BlockRow S H). x.1) whole in
+    let first : block_tally (e.0, new) ≡ cut_row tally = step e.0 tally (ap (λ (v : BlockRow S H). block_tally (e.0, v)) (sym value) ∙ head) in
     rw (first, tail) refl
 shown_still (e ∷ es) (tally ∷ tallies) j (suc i) old new step found shown =
     let head : block_tally e ≡ cut_row tally = cc in
@@ -168,40 +166,21 @@ shown_still (e ∷ es) (tally ∷ tallies) j (suc i) old new step found shown =
     rw (head, shown_still es tallies j i old new step found tail) refl
 
 -- records were counted in the row at a place
-pub records_passed : (records : List RecordMark) (es : List (ℕ × BlockRow)) (tallies : List BlockTally) (id j i : ℕ) (old new : BlockRow) → CountsInRow old records new
-    → AreDistinct (keys_of es) → slice_get es i ≡ Some (j, old) → slice_get (keys_of es) i ≡ Some id → block_tallies es ≡ cut_rows tallies
-    → block_tallies (set es i (j, new)) ≡ cut_rows (rows_after records id tallies)
-records_passed [] es tallies id j i old new counted distinct found at shown = shown_still es tallies j i old new (counted j) found shown
+pub records_passed : {S H : Type 0} (records : List RecordMark) (es : List (ℕ × BlockRow S H)) (tallies : List BlockTally) (id j i : ℕ) (old new : BlockRow S H) → CountsInRow old records new
+    → IsDistinct nat_eq (keys_of es) → slice_get es i ≡ Some (j, old) → slice_get (keys_of es) i ≡ Some id → block_tallies es ≡ cut_rows tallies
+    → block_tallies (set_value_at es i new) ≡ cut_rows (rows_after records id tallies)
+records_passed [] es tallies id j i old new counted distinct found at shown = shown_still es tallies j i old new counted found shown
 records_passed (mark ∷ records) es tallies id j i old new counted distinct found at shown =
     records_at (mark ∷ records) es tallies id j i old new counted distinct found at shown ∙ ap cut_rows (records_at_once mark records id tallies)
 
 -- the same for each id and tallies, on success
-pub run_passed : {T : Type 0} (Passes : List RecordMark → T → Type 0) (result : Result T AllocError) (es : List (ℕ × BlockRow)) (j i : ℕ) (old new : BlockRow)
+pub run_passed : {T S H : Type 0} (Passes : List RecordMark → T → Type 0) (result : Result T AllocError) (es : List (ℕ × BlockRow S H)) (j i : ℕ) (old new : BlockRow S H) → IsDistinct nat_eq (keys_of es)
     → slice_get es i ≡ Some (j, old) → IfOk result (λ run. (records : List RecordMark) × CountsInRow old records new × Passes records run)
     → IfOk result (λ run. (records : List RecordMark) × Passes records run
-    × ((id : ℕ) (tallies : List BlockTally) → AreDistinct (keys_of es) → slice_get (keys_of es) i ≡ Some id → block_tallies es ≡ cut_rows tallies
-    → block_tallies (set es i (j, new)) ≡ cut_rows (rows_after records id tallies)))
-run_passed Passes (Ok run) es j i old new found passed = (passed.0, passed.2, λ id tallies distinct at shown. records_passed passed.0 es tallies id j i old new passed.1 distinct found at shown)
-run_passed Passes (Err e) es j i old new found passed = tt
-
--- the same for rows that were lent to the call and written back, `len` in number
-pub lent_passed : {T : Type 0} (Passes : List RecordMark → T → Type 0) (result : Result T AllocError) (id i len : ℕ) (all items lent new : List (ℕ × BlockRow))
-    → lent ≡ items → items ≡ all → keys_of new ≡ keys_of lent → length items ≡ len → AreDistinct (keys_of items) → slice_get (keys_of items) i ≡ Some id
-    → IfOk result (λ run. (records : List RecordMark) × Passes records run
-    × ((id : ℕ) (tallies : List BlockTally) → AreDistinct (keys_of lent) → slice_get (keys_of lent) i ≡ Some id → block_tallies lent ≡ cut_rows tallies → block_tallies new ≡ cut_rows (rows_after records id tallies)))
-    → IfOk result (λ run. (records : List RecordMark) × Passes records run
-    × ((tallies : List BlockTally) → block_tallies all ≡ cut_rows tallies → block_tallies (take len (new ++ drop (length new) items)) ≡ cut_rows (rows_after records id tallies)))
-lent_passed Passes (Ok run) id i len all items lent new is view keys many distinct at passed = (
-  passed.0,
-  passed.1,
-  λ tallies shown.
-      let same : length new ≡ len = omega (arith, keys_length new, keys_length lent, ap length keys, ap length is, many) in
-      let whole = take_at new (drop (length new) items) len same in
-      subst (λ (rows : List (ℕ × BlockRow)). block_tallies rows ≡ cut_rows (rows_after passed.0 id tallies)) (sym whole)
-      (passed.2 id tallies (subst (λ (rows : List (ℕ × BlockRow)). AreDistinct (keys_of rows)) (sym is) distinct) (subst (λ (rows : List (ℕ × BlockRow)). slice_get (keys_of rows) i ≡ Some id) (sym is) at)
-      (subst (λ (rows : List (ℕ × BlockRow)). block_tallies rows ≡ cut_rows tallies) (sym (is ∙ view)) shown)),
-)
-lent_passed Passes (Err e) id i len all items lent new is view keys many distinct at passed = tt
+    × ((id : ℕ) (tallies : List BlockTally) → slice_get (keys_of es) i ≡ Some id → block_tallies es ≡ cut_rows tallies
+    → block_tallies (set_value_at es i new) ≡ cut_rows (rows_after records id tallies)))
+run_passed Passes (Ok run) es j i old new distinct found passed = (passed.0, passed.2, λ id tallies at shown. records_passed passed.0 es tallies id j i old new passed.1 distinct found at shown)
+run_passed Passes (Err e) es j i old new distinct found passed = tt
 
 -- ---- events
 
@@ -235,9 +214,9 @@ passed_events records done c new blocks x found shown is =
     passed_in records (count_events done c).rows new (count_events done c).around blocks x (the_last blocks x found) shown is ∙ ap capped_counts (sym (count_behind done (map notes records) c))
 
 -- the same on success, where the rows of a counter show counts
-pub run_gathered : {T : Type 0} (Passes : List RecordMark → T → Type 0) (result : Result T AllocError) (old new : List (ℕ × BlockRow)) (blocks : List CountedBlock) (x : CountedBlock) → Some x ≡ slice_get blocks (length blocks - 1)
+pub run_gathered : {T S H : Type 0} (Passes : List RecordMark → T → Type 0) (result : Result T AllocError) (old new : List (ℕ × BlockRow S H)) (blocks : List CountedBlock) (x : CountedBlock) → Some x ≡ slice_get blocks (length blocks - 1)
     → IfOk result (λ run. (records : List RecordMark) × Passes records run × ((tallies : List BlockTally) → block_tallies old ≡ cut_rows tallies → block_tallies new ≡ cut_rows (rows_after records x.id tallies)))
-    → IfOk result (λ run. (records : List RecordMark) × Passes records run × ((first : Counter) (done : List Event) → ◌≡◌ {A = Counts} (record { rows = block_tallies old; around = open_counts blocks }) (capped_counts (count_events done no_counts))
+    → IfOk result (λ run. (records : List RecordMark) × Passes records run × ((first : Counts) (done : List Event) → ◌≡◌ {A = Counts} (record { rows = block_tallies old; around = open_counts blocks }) (capped_counts (count_events done no_counts))
     → 0 < left_open done → ◌≡◌ {A = Counts} (record { rows = block_tallies new; around = open_counts blocks }) (capped_counts (count_events (done ++ map notes records) no_counts))))
 run_gathered Passes (Ok run) old new blocks x found passed = (
   passed.0,

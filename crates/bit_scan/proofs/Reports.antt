@@ -20,7 +20,7 @@ drop_first xs i x h = rw add-one (drop-cons xs i x h)
 
 -- ---- the parts of a report, in each format
 
-row_parts : (format : Format) (e : ℕ × BlockRow) → row_as format (block_tally e) ≡ row_line_as format e ++ flat_map (code_as format e.0) (code_tallies e.1.codes)
+row_parts : {S H : Type 0} (format : Format) (e : ℕ × BlockRow S H) → row_as format (block_tally e) ≡ row_line_as format e ++ flat_map (code_as format e.0) (code_tallies e.1.codes)
 row_parts Text e = refl
 row_parts JsonLines e = refl
 
@@ -41,10 +41,10 @@ module _ (format : Format) where
   -- ---- rows
 
   -- the lines of rows
-  abbrev pub lines_of_rows : List (ℕ × BlockRow) → List ℕ
+  abbrev pub lines_of_rows : {S H : Type 0} → List (ℕ × BlockRow S H) → List ℕ
   lines_of_rows es = flat_map (row_as format) (block_tallies es)
 
-  pub next_row : (whole : List ℕ) (old now : Printing) (es left : List (ℕ × BlockRow)) (e : ℕ × BlockRow) → es ≡ e ∷ left → Goes whole old (lines_of_rows es) now → Goes whole old (row_as format (block_tally e) ++ lines_of_rows left) now
+  pub next_row : {S H : Type 0} (whole : List ℕ) (old now : Printing) (es left : List (ℕ × BlockRow S H)) (e : ℕ × BlockRow S H) → es ≡ e ∷ left → Goes whole old (lines_of_rows es) now → Goes whole old (row_as format (block_tally e) ++ lines_of_rows left) now
   next_row whole old now es left e is g = goes_as whole old (lines_of_rows es) (row_as format (block_tally e) ++ lines_of_rows left) now (ap lines_of_rows is) g
 
   -- ---- the whole
@@ -69,12 +69,12 @@ module _ (format : Format) where
 
   -- ---- a row
 
-  row_starts : (e : ℕ × BlockRow) (w : Printing) → Goes (row_as format (block_tally e)) w (row_line_as format e ++ lines_of_codes e.0 e.1.codes) w
+  row_starts : {S H : Type 0} (e : ℕ × BlockRow S H) (w : Printing) → Goes (row_as format (block_tally e)) w (row_line_as format e ++ lines_of_codes e.0 e.1.codes) w
   row_starts e w = goes_as (row_as format (block_tally e)) w (row_as format (block_tally e)) (row_line_as format e ++ lines_of_codes e.0 e.1.codes) w (row_parts format e) (goes_starts (row_as format (block_tally e)) w)
 
-  pub no_row : (e : ℕ × BlockRow) (old new : Printing) (fault : Fault) → Prints (row_line_as format e) old (Err fault) new → Prints (row_as format (block_tally e)) old (Err fault) new
+  pub no_row : {S H : Type 0} (e : ℕ × BlockRow S H) (old new : Printing) (fault : Fault) → Prints (row_line_as format e) old (Err fault) new → Prints (row_as format (block_tally e)) old (Err fault) new
   no_row e old new fault p = goes_wrong (row_as format (block_tally e)) old (row_line_as format e) (lines_of_codes e.0 e.1.codes) old new fault (row_starts e old) p
 
-  pub row_ends : (e : ℕ × BlockRow) (old now new : Printing) (r : Result (Unit {0}) Fault) → Printed (row_line_as format e) old now → Prints (lines_of_codes e.0 e.1.codes) now r new → Prints (row_as format (block_tally e)) old r new
+  pub row_ends : {S H : Type 0} (e : ℕ × BlockRow S H) (old now new : Printing) (r : Result (Unit {0}) Fault) → Printed (row_line_as format e) old now → Prints (lines_of_codes e.0 e.1.codes) now r new → Prints (row_as format (block_tally e)) old r new
   row_ends e old now new r p q =
       goes_last (row_as format (block_tally e)) old (lines_of_codes e.0 e.1.codes) now r new (goes_on (row_as format (block_tally e)) old (row_line_as format e) (lines_of_codes e.0 e.1.codes) old now (row_starts e old) p) q

@@ -6,7 +6,6 @@ pub mod Counting
 pub mod Cut
 pub mod Digits
 pub mod EventLines
-pub mod Indexed
 pub mod Json
 pub mod Lines
 pub mod Listing

@@ -14,7 +14,7 @@ abbrev pub listing_head : (magic : ℕ) → List ℕ
 listing_head magic = line 0 (magic_text magic)
 
 -- the line of a block id, without those of its codes
-abbrev pub block_row_text : ℕ × BlockRow → List ℕ
+abbrev pub block_row_text : {S H : Type 0} → ℕ × BlockRow S H → List ℕ
 block_row_text e =
     line 0 (codes "block " ++ decimal e.0 ++ codes " count " ++ decimal e.1.blocks ++ codes " bits "
     ++ decimal e.1.bits ++ codes " definitions " ++ decimal e.1.definitions
@@ -22,15 +22,15 @@ block_row_text e =
     ++ codes " values " ++ decimal e.1.values)
 
 -- its parts
-abbrev pub block_start : ℕ × BlockRow → List ℕ
+abbrev pub block_start : {S H : Type 0} → ℕ × BlockRow S H → List ℕ
 block_start e = codes "block " ++ decimal e.0 ++ codes " count " ++ decimal e.1.blocks
     ++ codes " bits " ++ decimal e.1.bits
 
-abbrev pub block_middle : ℕ × BlockRow → List ℕ
+abbrev pub block_middle : {S H : Type 0} → ℕ × BlockRow S H → List ℕ
 block_middle e = codes " definitions " ++ decimal e.1.definitions ++ codes " records "
     ++ decimal e.1.records
 
-abbrev pub block_end : ℕ × BlockRow → List ℕ
+abbrev pub block_end : {S H : Type 0} → ℕ × BlockRow S H → List ℕ
 block_end e = codes " abbreviated " ++ decimal e.1.abbreviated ++ codes " values "
     ++ decimal e.1.values ++ codes "\n"
 

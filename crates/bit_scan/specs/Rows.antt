@@ -13,7 +13,7 @@ use Rattle.bit_scan.specs.declared.rows.CodeRow.{CodeRow}
 use Rattle.bit_scan.specs.declared.rows.RowCounter.{RowCounter}
 
 -- a block id and its row
-abbrev pub block_tally : ℕ × BlockRow → BlockTally
+abbrev pub block_tally : {S H : Type 0} → ℕ × BlockRow S H → BlockTally
 block_tally e = record {
   id = e.0;
   blocks = e.1.blocks;
@@ -25,12 +25,12 @@ block_tally e = record {
   codes = code_tallies e.1.codes;
 }
 
-abbrev pub block_tallies : List (ℕ × BlockRow) → List BlockTally
+abbrev pub block_tallies : {S H : Type 0} → List (ℕ × BlockRow S H) → List BlockTally
 block_tallies rows = map block_tally rows
 
 -- on success, rows that show some tallies show these with an addition to the row of an id
-abbrev pub AddsToRow : {T E : Type 0} → Addition → (id : ℕ) → List (ℕ × BlockRow) → Result T E
-    → List (ℕ × BlockRow) → Type 0
+abbrev pub AddsToRow : {T E S H : Type 0} → Addition → (id : ℕ) → List (ℕ × BlockRow S H) → Result T E
+    → List (ℕ × BlockRow S H) → Type 0
 AddsToRow addition id old result new = (tallies : List BlockTally)
     → block_tallies old ≡ cut_rows tallies → OnOk result
     (block_tallies new ≡ cut_rows (with_row (with_added addition) id tallies))
@@ -41,7 +41,7 @@ with_records [] tally = tally
 with_records (mark ∷ records) tally = with_records records (one_record mark tally)
 
 -- a row that shows a tally shows it with these records more
-abbrev pub CountsInRow : BlockRow → List RecordMark → BlockRow → Type 0
+abbrev pub CountsInRow : {S H : Type 0} → BlockRow S H → List RecordMark → BlockRow S H → Type 0
 CountsInRow old records new = (id : ℕ) (tally : BlockTally) → block_tally (id, old) ≡ cut_row tally
     → block_tally (id, new) ≡ cut_row (with_records records tally)
 
@@ -59,11 +59,11 @@ abbrev pub plain_in : List RecordMark → ℕ
 plain_in records = sum_by (λ mark. if is_abbreviated mark then 0 else 1) records
 
 -- a row with these codes
-abbrev pub with_codes : List (ℕ × CodeRow) → BlockRow → BlockRow
+abbrev pub with_codes : {S H : Type 0} → List (ℕ × CodeRow) → BlockRow S H → BlockRow S H
 with_codes codes row = record row { codes = codes }
 
 -- a row with the sums of a run of records
-abbrev pub with_run : (plain abbreviated values : ℕ) → BlockRow → BlockRow
+abbrev pub with_run : {S H : Type 0} → (plain abbreviated values : ℕ) → BlockRow S H → BlockRow S H
 with_run plain abbreviated values row = record row {
   records = saturated (row.records + saturated (plain + abbreviated));
   abbreviated = saturated (row.abbreviated + abbreviated);
@@ -71,7 +71,7 @@ with_run plain abbreviated values row = record row {
 }
 
 -- The same reference, to a row whose codes have these records more, and the sums of the records.
-pub record CountsBehind (old : RowCounter) (records : List RecordMark) (new : RowCounter) : Type 0 where
+pub record CountsBehind {S H : Type 0} (old : RowCounter S H) (records : List RecordMark) (new : RowCounter S H) : Type 0 where
   pub same : new.row.ghost_name ≡ old.row.ghost_name
   pub row : new.row.now ≡ with_codes new.row.now.codes old.row.now
   pub codes : (tallies : List CodeTally) → code_tallies old.row.now.codes ≡ map cut_code tallies

@@ -72,7 +72,7 @@ code_as Text id row = code_text row
 code_as JsonLines id row = code_json id row
 
 -- the line of a block id, without those of its codes, and with them
-abbrev pub row_line_as : Format → ℕ × BlockRow → List ℕ
+abbrev pub row_line_as : {S H : Type 0} → Format → ℕ × BlockRow S H → List ℕ
 row_line_as Text e = block_row_text e
 row_line_as JsonLines e = row_line_json (block_tally e)
 

@@ -11,19 +11,21 @@ use crate::format::Format;
 use crate::printer::Printer;
 use crate::rows::{BlockRow, CodeRow, Codes};
 use bit_fields::{Fault, Sink};
+use indexmap::IndexMap;
 use std::alloc::Global;
+use std::hash::{BuildHasher, BuildHasherDefault, FoldHasher};
 use std::marker::Model;
 
 /// The totals of a stream: its magic, its bits, and a row for each block id, in order of first entry.
 #[derive(Drop)]
-pub struct Analysis {
+pub struct Analysis<H: BuildHasher = BuildHasherDefault<FoldHasher>> {
     alloc: Global,
     magic: [u8; 4],
     bits: u64,
-    rows: Vec<(u32, BlockRow)>,
+    rows: IndexMap<u32, BlockRow<H>, H>,
 }
 
-impl Model for Analysis {
+impl<H: BuildHasher> Model for Analysis<H> {
     ghost use Rattle.bit_grammar.specs.Tally.{Tally};
 
     ghost Value = { Tally };
@@ -34,7 +36,7 @@ impl Model for Analysis {
     ghost view = { λ analysis. record {
       magic = magic_number analysis.magic;
       bits = analysis.bits;
-      rows = block_tallies analysis.rows.items;
+      rows = block_tallies analysis.rows.entries;
     } };
 }
 
@@ -79,27 +81,27 @@ fn write_code<K: Sink>(
 }
 
 /// Writes the lines of codes in the blocks with an id.
-fn write_codes<K: Sink>(
+fn write_codes<K: Sink, H: BuildHasher>(
     printer: &mut Printer<K>,
     format: Format,
     id: u32,
-    codes: &Codes,
+    codes: &Codes<H>,
 ) -> Result<(), Fault>
     ensures { Prints (flat_map (code_as format id) (code_tallies codes.now)) printer.old result
         printer.new }
 {
-    for (code, row) in codes.rows() {
+    for (code, row) in codes.0.iter() {
         write_code(printer, format, id, *code, *row)?;
     }
     Ok(())
 }
 
 /// Writes the line of a block id, without those of its codes.
-fn write_row_line<K: Sink>(
+fn write_row_line<K: Sink, H: BuildHasher>(
     printer: &mut Printer<K>,
     format: Format,
     id: u32,
-    row: &BlockRow,
+    row: &BlockRow<H>,
 ) -> Result<(), Fault>
     ensures { Prints (row_line_as format (id, row.now)) printer.old result printer.new }
 {
@@ -121,11 +123,11 @@ fn write_row_line<K: Sink>(
 }
 
 /// Writes the line of a block id and those of its codes.
-fn write_row<K: Sink>(
+fn write_row<K: Sink, H: BuildHasher>(
     printer: &mut Printer<K>,
     format: Format,
     id: u32,
-    row: &BlockRow,
+    row: &BlockRow<H>,
 ) -> Result<(), Fault>
     ensures { Prints (row_as format (block_tally (id, row.now))) printer.old result printer.new }
 {
@@ -134,32 +136,32 @@ fn write_row<K: Sink>(
 }
 
 /// Writes the lines of all rows.
-fn write_rows<K: Sink>(
+fn write_rows<K: Sink, H: BuildHasher>(
     printer: &mut Printer<K>,
     format: Format,
-    rows: &[(u32, BlockRow)],
+    rows: &IndexMap<u32, BlockRow<H>, H>,
 ) -> Result<(), Fault>
-    ensures { Prints (flat_map (row_as format) (block_tallies rows.now)) printer.old result
+    ensures { Prints (flat_map (row_as format) (block_tallies rows.now.entries)) printer.old result
         printer.new }
 {
-    for (id, row) in rows {
+    for (id, row) in rows.iter() {
         write_row(printer, format, *id, row)?;
     }
     Ok(())
 }
 
-impl Analysis {
+impl<H: BuildHasher> Analysis<H> {
     /// An analysis of these parts.
     pub(crate) fn of(
         alloc: Global,
         magic: [u8; 4],
         bits: u64,
-        rows: Vec<(u32, BlockRow)>,
-    ) -> Analysis
+        rows: IndexMap<u32, BlockRow<H>, H>,
+    ) -> Analysis<H>
         ensures { result ≡ record {
           magic = magic_number magic;
           bits = bits;
-          rows = block_tallies rows.items;
+          rows = block_tallies rows.entries;
         } }
     {
         Analysis {
@@ -185,10 +187,10 @@ impl Analysis {
     }
 
     /// Each block id and its row, in order of first entry.
-    pub fn rows(&self) -> &[(u32, BlockRow)]
-        ensures { block_tallies result.now ≡ self.now.rows }
+    pub fn rows(&self) -> &IndexMap<u32, BlockRow<H>, H>
+        ensures { block_tallies result.now.entries ≡ self.now.rows }
     {
-        self.rows.as_slice()
+        &self.rows
     }
 
     /// Writes the report through a printer.

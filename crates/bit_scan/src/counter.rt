@@ -9,7 +9,9 @@ use crate::rows::{Addition, BlockRow, BlockRows};
 use bit_abbrev::{Abbrev, InForce};
 use bit_events::{Gatherer, PassedRun};
 use bit_fields::{PlacedBits, ValueCount, ValueTaker};
+use indexmap::IndexMap;
 use std::alloc::{AllocError, Global};
+use std::hash::BuildHasher;
 use std::marker::Model;
 
 /// An open block: its id, the place of its row, its first bit, and the bits of the ended blocks in it.
@@ -24,8 +26,8 @@ struct CountedBlock {
 /// The totals of the events so far: a row for each block id in order of first entry, and the open blocks, the innermost
 /// last. It holds no tree.
 #[derive(Drop)]
-pub(crate) struct Counter {
-    rows: BlockRows,
+pub(crate) struct Counter<H: BuildHasher> {
+    rows: BlockRows<H>,
     open: Vec<CountedBlock>,
 }
 
@@ -43,7 +45,7 @@ fn close_block(blocks: &mut Vec<CountedBlock>, after: u64) -> Option<(CountedBlo
     Some((block, bits.saturating_sub(block.inside)))
 }
 
-impl Model for Counter {
+impl<H: BuildHasher> Model for Counter<H> {
     ghost use Rattle.bit_grammar.specs.Counting.{Counts};
 
     ghost Value = { Counts };
@@ -52,18 +54,18 @@ impl Model for Counter {
     ghost use Rattle.bit_scan.specs.Rows.{block_tallies};
 
     ghost view = { λ counter. record {
-      rows = block_tallies counter.rows;
+      rows = block_tallies counter.rows.rows.entries;
       around = open_counts counter.open.items;
     } };
 }
 
-impl Counter {
+impl<H: BuildHasher + Copy> Counter<H> {
     /// Before the first event.
-    pub(crate) fn new(alloc: Global) -> Counter
+    pub(crate) fn new(alloc: Global, hasher: H) -> Counter<H>
         ensures { result ≡ no_counts }
     {
         Counter {
-            rows: BlockRows::new(alloc),
+            rows: BlockRows::new(alloc, hasher),
             open: Vec::new(alloc),
         }
     }
@@ -112,14 +114,14 @@ impl Counter {
     }
 
     /// The rows.
-    pub(crate) fn into_rows(self) -> Vec<(u32, BlockRow)>
-        ensures { block_tallies result.items ≡ self.rows }
+    pub(crate) fn into_rows(self) -> IndexMap<u32, BlockRow<H>, H>
+        ensures { block_tallies result.entries ≡ self.rows }
     {
         self.rows.into_rows()
     }
 }
 
-impl Gatherer for Counter {
+impl<H: BuildHasher + Copy> Gatherer for Counter<H> {
     ghost use Rattle.std.specs.Prelude.{◌≡◌};
     ghost use Rattle.bit_grammar.specs.Counting.{no_counts, count_events};
     ghost use Rattle.bit_scan.specs.Cut.{capped_counts};

@@ -8,6 +8,7 @@ use crate::rows::{BlockRow, CodeRow};
 use bit_grammar::Op;
 use itoa::Buffer;
 use std::alloc::AllocError;
+use std::hash::BuildHasher;
 
 /// Appends two digits.
 fn push_byte(text: &mut String, byte: u8) -> Result<(), AllocError>
@@ -68,7 +69,11 @@ pub(crate) fn push_listing_head(text: &mut String, magic: [u8; 4]) -> Result<(),
 }
 
 /// Appends the first part of the line of a block id in a report.
-fn push_block_start(text: &mut String, id: u32, row: &BlockRow) -> Result<(), AllocError>
+fn push_block_start<H: BuildHasher>(
+    text: &mut String,
+    id: u32,
+    row: &BlockRow<H>,
+) -> Result<(), AllocError>
     ensures { OnOk result (string_bytes text.new
         ≡ string_bytes text.old ++ block_start (id, row.now)) }
 {
@@ -77,7 +82,7 @@ fn push_block_start(text: &mut String, id: u32, row: &BlockRow) -> Result<(), Al
 }
 
 /// Appends the second part.
-fn push_block_middle(text: &mut String, row: &BlockRow) -> Result<(), AllocError>
+fn push_block_middle<H: BuildHasher>(text: &mut String, row: &BlockRow<H>) -> Result<(), AllocError>
     ensures { (id : ℕ) → OnOk result (string_bytes text.new
         ≡ string_bytes text.old ++ block_middle (id, row.now)) }
 {
@@ -86,7 +91,7 @@ fn push_block_middle(text: &mut String, row: &BlockRow) -> Result<(), AllocError
 }
 
 /// Appends the last part.
-fn push_block_end(text: &mut String, row: &BlockRow) -> Result<(), AllocError>
+fn push_block_end<H: BuildHasher>(text: &mut String, row: &BlockRow<H>) -> Result<(), AllocError>
     ensures { (id : ℕ) → OnOk result (string_bytes text.new
         ≡ string_bytes text.old ++ block_end (id, row.now)) }
 {
@@ -95,7 +100,11 @@ fn push_block_end(text: &mut String, row: &BlockRow) -> Result<(), AllocError>
 }
 
 /// Appends the line of a block id in a report, without those of its codes.
-pub(crate) fn push_block_row(text: &mut String, id: u32, row: &BlockRow) -> Result<(), AllocError>
+pub(crate) fn push_block_row<H: BuildHasher>(
+    text: &mut String,
+    id: u32,
+    row: &BlockRow<H>,
+) -> Result<(), AllocError>
     ensures { OnOk result (string_bytes text.new
         ≡ string_bytes text.old ++ block_row_text (id, row.now)) }
 {

@@ -21,6 +21,7 @@ use crate::text_buffer::{BATCH, BYTES, HELD, TextBuffer};
 use bit_fields::{Fault, Reason, Sink, SinkFailed};
 use bit_grammar::Op;
 use std::alloc::{AllocError, Global};
+use std::hash::BuildHasher;
 use std::marker::Model;
 
 /// Gives a sink all of these bytes, in as many puts as it takes.
@@ -153,7 +154,11 @@ impl<K: Sink> Printer<K> {
     }
 
     /// The line of a block id in a report, without those of its codes.
-    pub(crate) fn block_row(&mut self, id: u32, row: &BlockRow) -> Result<(), Fault>
+    pub(crate) fn block_row<H: BuildHasher>(
+        &mut self,
+        id: u32,
+        row: &BlockRow<H>,
+    ) -> Result<(), Fault>
         ensures { Prints (block_row_text (id, row.now)) self.old result self.new }
     {
         let pushed = push_block_row(&mut self.piece, id, row);

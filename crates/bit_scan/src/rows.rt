@@ -1,23 +1,23 @@
-ghost use Rattle.std.specs.Prelude.{◌≡◌, ◌+◌, ◌<◌, ◌≤◌, ◌++◌, ◌∷◌, ℕ, map, min, nat_le, if◌then◌else◌, length, slice_get, List, [], Some, OnOk, IfOk};
-ghost use Rattle.std.specs.Map.{keys_of};
-ghost use Rattle.bit_scan.specs.Indexed.{AreDistinct, IsFree, IsIndexed};
+ghost use Rattle.std.specs.Prelude.{◌≡◌, ◌+◌, ◌<◌, ◌≤◌, ◌++◌, ◌∷◌, ℕ, map, min, nat_le, if◌then◌else◌, slice_get, List, [], None, Some, false, OnOk, IfOk};
+ghost use Rattle.std.specs.Option.{option_map_or};
+ghost use Rattle.indexmap.specs.IndexMap.{get, index_map_len, keys};
 ghost use Rattle.bit_grammar.specs.Tally.{CodeTally, BlockTally};
 ghost use Rattle.bit_grammar.specs.Counting.{fresh_row, with_row};
 ghost use Rattle.bit_scan.specs.Additions.{with_added};
 ghost use Rattle.bit_scan.specs.CodesView.{code_tallies, with_use, CountsUse};
 ghost use Rattle.bit_scan.specs.Cut.{cut_code, cut_row, cut_rows};
 ghost use Rattle.bit_grammar.specs.Marks.{RecordMark};
-ghost use Rattle.bit_grammar.specs.declared.op.Op.{Op};
 ghost use Rattle.bit_fields.specs.PlacedView.{placed};
 ghost use Rattle.bit_events.specs.Passing.{PassesRecords};
 ghost use Rattle.bit_scan.specs.declared.rows.Addition.TheVariants as addition;
 ghost use Rattle.bit_scan.specs.Rows.{block_tally, block_tallies, rows_after, with_codes, with_run, AddsToRow, CountsInRow};
 
-use crate::links::{Keyed, Spot, find, is_at, lead};
 use bit_abbrev::InForce;
 use bit_events::{CountedRecord, PassedRun, RunCounter, pass_records};
 use bit_fields::PlacedBits;
+use indexmap::IndexMap;
 use std::alloc::{AllocError, Global};
+use std::hash::{BuildHasher, BuildHasherDefault, FoldHasher, Hash};
 use std::marker::Model;
 
 /// Totals of the records with one code, in blocks with one id.
@@ -61,13 +61,36 @@ impl CodeRow {
     }
 }
 
-impl Keyed for (u64, CodeRow) {
-    ghost key = { λ e. e.0 };
-
-    #[inline(always)]
-    fn key(&self) -> u64 {
-        self.0
+/// Whether the entry at a place has a key.
+#[inline(always)]
+fn is_at<K: Eq + Hash, V, H: BuildHasher>(rows: &IndexMap<K, V, H>, place: usize, key: K) -> bool
+where
+    K: Copy,
+    ensures { result ≡ option_map_or (λ found. K.eq found key) (slice_get (keys rows.now) place)
+        false }
+{
+    match rows.get_index(place) {
+        Some((found, _)) => *found == key,
+        None => false,
     }
+}
+
+/// Adds the entry of a key that has none, at the end. There are many maps, so the room that doubling leaves is given back.
+fn push_new<K: Eq + Hash + Drop, V: Drop, H: BuildHasher>(
+    rows: &mut IndexMap<K, V, H>,
+    key: K,
+    value: V,
+) -> Result<(), AllocError>
+    requires { get K.eq rows.old key ≡ None }
+    ensures { OnOk result (rows.new.entries ≡ rows.old.entries ++ (key, value) ∷ []) }
+{
+    let len = rows.len();
+    let is_full = len == rows.capacity();
+    rows.insert(key, value)?;
+    if is_full {
+        rows.shrink_to(len + len / 4 + 2);
+    }
+    Ok(())
 }
 
 /// Caches, by the low bits of a code, the place of the code's row that was found last there. A place of another code's row costs a
@@ -77,113 +100,58 @@ type CodePlaces = [u8; 64];
 /// Such caches, by the low bits of the place of the row of a block's id.
 type Places = [CodePlaces; 32];
 
-/// Reserves room for one more row. There are many lists of rows, so doubling would leave much memory unused.
-#[inline(always)]
-fn make_room<T>(rows: &mut Vec<T>) -> Result<(), AllocError>
-    ensures { rows.new.items ≡ rows.old.items }
-{
-    if rows.len() == rows.capacity() {
-        rows.reserve_exact(rows.len() / 8 + 1)?;
-    }
-    Ok(())
-}
-
 /// A row for each code of records, in order of first use.
 #[derive(Drop)]
-pub struct Codes {
-    rows: Vec<(u64, CodeRow)>,
-    links: Vec<u32>,
-}
+pub struct Codes<H: BuildHasher = BuildHasherDefault<FoldHasher>>(pub IndexMap<u64, CodeRow, H>);
 
-impl Model for Codes {
+impl<H: BuildHasher> Model for Codes<H> {
     ghost use Rattle.std.specs.Prelude.{ℕ, List};
     ghost use Rattle.bit_scan.specs.declared.rows.CodeRow.{CodeRow};
 
     ghost Value = { List (ℕ × CodeRow) };
 
-    ghost use Rattle.std.specs.Map.{keys_of};
-    ghost use Rattle.bit_scan.specs.Indexed.{IsIndexed};
-
-    ghost view = { λ codes. codes.rows.items };
-
-    ghost invariant = { λ codes. IsIndexed (keys_of codes.rows.items) codes.links.items };
+    ghost view = { λ codes. codes.0.entries };
 }
 
 /// Counts one more record in the row at a place.
 #[inline(always)]
-fn count_at(rows: &mut [(u64, CodeRow)], place: usize, bits: u64)
-    requires { place < length rows.old }
-    ensures keys { keys_of rows.new ≡ keys_of rows.old }
-    ensures counts { (code : ℕ) (tallies : List CodeTally) → AreDistinct (keys_of rows.old)
-        → slice_get (keys_of rows.old) place ≡ Some code
-        → code_tallies rows.old ≡ map cut_code tallies
-        → code_tallies rows.new ≡ map cut_code (with_use code bits tallies) }
+fn count_at<H: BuildHasher>(rows: &mut IndexMap<u64, CodeRow, H>, place: usize, bits: u64)
+    requires { place < index_map_len rows.old }
+    ensures { (code : ℕ) (tallies : List CodeTally)
+        → slice_get (keys rows.old) place ≡ Some code
+        → code_tallies rows.old.entries ≡ map cut_code tallies
+        → code_tallies rows.new.entries ≡ map cut_code (with_use code bits tallies) }
 {
-    let (_, row) = &mut rows[place];
+    let (_code, row) = rows.pair_mut(place);
     row.add(bits);
 }
 
-/// Begins the row of a code that has none, at the end, with one record, and returns its place.
-fn begin_code(
-    rows: &mut Vec<(u64, CodeRow)>,
-    links: &mut Vec<u32>,
-    slot: usize,
-    code: u64,
-    bits: u64,
-) -> Result<usize, AllocError>
-    requires indexed { IsIndexed (keys_of rows.old.items) links.old.items }
-    requires free { IsFree (keys_of rows.old.items) links.old.items code slot }
-    ensures indexed { IsIndexed (keys_of rows.new.items) links.new.items }
-    ensures counts { CountsUse code bits rows.old.items result rows.new.items }
-{
-    let place = rows.len();
-    make_room(rows)?;
-    rows.push((code, CodeRow { count: 1, bits }))?;
-    match lead(links, slot, place) {
-        Ok(()) => Ok(place),
-        Err(AllocError) => {
-            rows.truncate(place);
-            Err(AllocError)
-        }
-    }
-}
-
 /// Counts one more record in the row of its code and returns the row's place. If there is no row, a new one is added at the end.
-fn count_by_code(
-    rows: &mut Vec<(u64, CodeRow)>,
-    links: &mut Vec<u32>,
+fn count_by_code<H: BuildHasher>(
+    rows: &mut IndexMap<u64, CodeRow, H>,
     code: u64,
     bits: u64,
 ) -> Result<usize, AllocError>
-    requires { IsIndexed (keys_of rows.old.items) links.old.items }
-    ensures indexed { IsIndexed (keys_of rows.new.items) links.new.items }
-    ensures counts { CountsUse code bits rows.old.items result rows.new.items }
+    ensures { CountsUse code bits rows.old.entries result rows.new.entries }
 {
-    match find(rows, links, code) {
-        Spot::Row(place) => {
+    match rows.get_index_of(&code) {
+        Some(place) => {
             count_at(rows, place, bits);
             Ok(place)
         }
-        Spot::Link(slot) => begin_code(rows, links, slot, code, bits),
+        None => {
+            push_new(rows, code, CodeRow { count: 1, bits })?;
+            Ok(rows.len() - 1)
+        }
     }
 }
 
-impl Codes {
+impl<H: BuildHasher> Codes<H> {
     /// No code is used yet.
-    fn new(alloc: Global) -> Codes
+    fn new(alloc: Global, hasher: H) -> Codes<H>
         ensures { result ≡ [] }
     {
-        Codes {
-            rows: Vec::new(alloc),
-            links: Vec::new(alloc),
-        }
-    }
-
-    /// Each code and its row, in order of first use.
-    pub fn rows(&self) -> &[(u64, CodeRow)]
-        ensures { result.now ≡ self.now }
-    {
-        self.rows.as_slice()
+        Codes(IndexMap::with_hasher(alloc, hasher))
     }
 
     /// Counts one more record, and caches the place of its row.
@@ -192,7 +160,7 @@ impl Codes {
     fn add_by_code(&mut self, place: &mut u8, code: u64, bits: u64) -> Result<(), AllocError>
         ensures { CountsUse code bits self.old result self.new }
     {
-        let found = count_by_code(&mut self.rows, &mut self.links, code, bits)?;
+        let found = count_by_code(&mut self.0, code, bits)?;
         *place = u8::try_from(found).unwrap_or(0);
         Ok(())
     }
@@ -203,17 +171,17 @@ impl Codes {
         ensures { CountsUse code bits self.old result self.new }
     {
         let likely = usize::from(*place);
-        if !is_at(&self.rows, likely, code) {
+        if !is_at(&self.0, likely, code) {
             return self.add_by_code(place, code, bits);
         }
-        count_at(&mut self.rows, likely, bits);
+        count_at(&mut self.0, likely, bits);
         Ok(())
     }
 }
 
 /// Totals of the blocks with one id. No number counts the items of blocks inside them.
 #[derive(Drop)]
-pub struct BlockRow {
+pub struct BlockRow<H: BuildHasher = BuildHasherDefault<FoldHasher>> {
     /// The number of blocks.
     pub blocks: u64,
     /// Their bits, from the first of the abbreviation id to the last of the end's padding, without the bits of the
@@ -228,7 +196,7 @@ pub struct BlockRow {
     /// The number of values of the records, codes not counted.
     pub values: u64,
     /// The records by code.
-    pub codes: Codes,
+    pub codes: Codes<H>,
 }
 
 /// An addition that an event makes to a row.
@@ -249,9 +217,9 @@ pub(crate) enum Addition {
     },
 }
 
-impl BlockRow {
+impl<H: BuildHasher> BlockRow<H> {
     /// Nothing is counted.
-    fn new(alloc: Global) -> BlockRow
+    fn new(alloc: Global, hasher: H) -> BlockRow<H>
         ensures { (id : ℕ) → block_tally (id, result) ≡ fresh_row id }
     {
         BlockRow {
@@ -261,7 +229,7 @@ impl BlockRow {
             records: 0,
             abbreviated: 0,
             values: 0,
-            codes: Codes::new(alloc),
+            codes: Codes::new(alloc, hasher),
         }
     }
 
@@ -313,7 +281,7 @@ fn add_kind(plain: &mut u64, abbreviated: &mut u64, id: u64)
     add_to(plain, 1);
 }
 
-impl BlockRow {
+impl<H: BuildHasher> BlockRow<H> {
     /// Counts one more record in the row of its code.
     #[inline(always)]
     fn add_code(&mut self, places: &mut CodePlaces, code: u64, bits: u64) -> Result<(), AllocError>
@@ -338,14 +306,14 @@ impl BlockRow {
 
 /// Counts the records of a run in the rows of their codes, and the others of their sums apart.
 #[derive(Drop)]
-struct RowCounter<'a> {
-    row: &'a mut BlockRow,
+struct RowCounter<'a, H: BuildHasher> {
+    row: &'a mut BlockRow<H>,
     places: &'a mut CodePlaces,
     plain: u64,
     abbreviated: u64,
 }
 
-impl<'a> RunCounter for RowCounter<'a> {
+impl<'a, H: BuildHasher> RunCounter for RowCounter<'a, H> {
     ghost use Rattle.bit_scan.specs.Rows.{CountsBehind};
 
     ghost counted = { λ first records last. CountsBehind first records last };
@@ -359,7 +327,7 @@ impl<'a> RunCounter for RowCounter<'a> {
     }
 }
 
-impl BlockRow {
+impl<H: BuildHasher> BlockRow<H> {
     /// Passes over records of a block and counts them in the row.
     #[inline(always)]
     fn pass(
@@ -392,39 +360,29 @@ impl BlockRow {
     }
 }
 
-impl Keyed for (u32, BlockRow) {
-    ghost key = { λ e. e.0 };
-
-    #[inline(always)]
-    fn key(&self) -> u64 {
-        u64::from(self.0)
-    }
-}
-
 /// Counts what an event adds to the row at a place.
 #[inline(always)]
-fn add_at(
-    rows: &mut [(u32, BlockRow)],
+fn add_at<H: BuildHasher>(
+    rows: &mut IndexMap<u32, BlockRow<H>, H>,
     places: &mut Places,
     place: usize,
     addition: Addition,
 ) -> Result<(), AllocError>
-    requires { place < length rows.old }
-    ensures keys { keys_of rows.new ≡ keys_of rows.old }
-    ensures adds { (id : ℕ) (tallies : List BlockTally) → AreDistinct (keys_of rows.old)
-        → slice_get (keys_of rows.old) place ≡ Some id
-        → block_tallies rows.old ≡ cut_rows tallies
-        → OnOk result (block_tallies rows.new
+    requires { place < index_map_len rows.old }
+    ensures { (id : ℕ) (tallies : List BlockTally)
+        → slice_get (keys rows.old) place ≡ Some id
+        → block_tallies rows.old.entries ≡ cut_rows tallies
+        → OnOk result (block_tallies rows.new.entries
         ≡ cut_rows (with_row (with_added addition) id tallies)) }
 {
-    let (_, row) = &mut rows[place];
+    let (_id, row) = rows.pair_mut(place);
     row.add(&mut places[place % 32], addition)
 }
 
 /// Passes over records of a block and counts them in its row, which is at a place.
 #[inline(always)]
-fn pass_at(
-    rows: &mut [(u32, BlockRow)],
+fn pass_at<H: BuildHasher>(
+    rows: &mut IndexMap<u32, BlockRow<H>, H>,
     places: &mut Places,
     place: usize,
     bits: PlacedBits<'_>,
@@ -432,81 +390,37 @@ fn pass_at(
     definitions: &InForce,
     room: u64,
 ) -> Result<PassedRun, AllocError>
-    requires within { place < length rows.old }
+    requires within { place < index_map_len rows.old }
     requires width { width ≤ 32 }
-    ensures keys { keys_of rows.new ≡ keys_of rows.old }
-    ensures passes { IfOk result (λ run. (records : List RecordMark)
+    ensures { IfOk result (λ run. (records : List RecordMark)
         × PassesRecords width definitions.now.all room (placed bits.entry) records run
-        × ((id : ℕ) (tallies : List BlockTally) → AreDistinct (keys_of rows.old)
-        → slice_get (keys_of rows.old) place ≡ Some id
-        → block_tallies rows.old ≡ cut_rows tallies
-        → block_tallies rows.new ≡ cut_rows (rows_after records id tallies))) }
+        × ((id : ℕ) (tallies : List BlockTally)
+        → slice_get (keys rows.old) place ≡ Some id
+        → block_tallies rows.old.entries ≡ cut_rows tallies
+        → block_tallies rows.new.entries ≡ cut_rows (rows_after records id tallies))) }
 {
-    let (_, row) = &mut rows[place];
+    let (_id, row) = rows.pair_mut(place);
     row.pass(&mut places[place % 32], bits, width, definitions, room)
-}
-
-/// Begins the row of an id that has none, at the end, with what an event adds, and returns its place.
-#[cold]
-#[inline(never)]
-fn begin_row(
-    rows: &mut Vec<(u32, BlockRow)>,
-    links: &mut Vec<u32>,
-    slot: usize,
-    id: u32,
-    row: BlockRow,
-) -> Result<usize, AllocError>
-    requires indexed { IsIndexed (keys_of rows.old.items) links.old.items }
-    requires free { IsFree (keys_of rows.old.items) links.old.items id slot }
-    ensures indexed { IsIndexed (keys_of rows.new.items) links.new.items }
-    ensures pushed { OnOk result (rows.new.items ≡ rows.old.items ++ (id, row) ∷ []) }
-{
-    let place = rows.len();
-    make_room(rows)?;
-    rows.push((id, row))?;
-    match lead(links, slot, place) {
-        Ok(()) => Ok(place),
-        Err(AllocError) => {
-            rows.truncate(place);
-            Err(AllocError)
-        }
-    }
 }
 
 /// A row for each block id, in order of first entry.
 #[derive(Drop)]
-pub(crate) struct BlockRows {
+pub(crate) struct BlockRows<H: BuildHasher> {
     alloc: Global,
-    rows: Vec<(u32, BlockRow)>,
-    links: Vec<u32>,
+    rows: IndexMap<u32, BlockRow<H>, H>,
     places: Places,
     /// Caches, by the low bits of an id, the place of the row that was found last for a block that begins.
     found: [u32; 32],
 }
 
-impl Model for BlockRows {
-    ghost use Rattle.std.specs.Prelude.{ℕ, List};
-    ghost use Rattle.bit_scan.specs.declared.rows.BlockRow.{BlockRow};
-
-    ghost Value = { List (ℕ × BlockRow) };
-
-    ghost use Rattle.std.specs.Map.{keys_of};
-    ghost use Rattle.bit_scan.specs.Indexed.{IsIndexed};
-
-    ghost view = { λ all. all.rows.items };
-
-    ghost invariant = { λ all. IsIndexed (keys_of all.rows.items) all.links.items };
-}
-
-impl BlockRows {
+impl<H: BuildHasher + Copy> BlockRows<H> {
     /// No block is entered yet.
-    pub(crate) fn new(alloc: Global) -> BlockRows
-        ensures { result ≡ [] }
+    pub(crate) fn new(alloc: Global, hasher: H) -> BlockRows<H>
+        ensures { result.rows.entries ≡ [] }
     {
         BlockRows {
             alloc,
-            rows: Vec::new(alloc),
-            links: Vec::new(alloc),
+            rows: IndexMap::with_hasher(alloc, hasher),
             places: [[0; 64]; 32],
             found: [0; 32],
         }
@@ -515,17 +429,19 @@ impl BlockRows {
     /// Counts what an event adds to the row of an id and returns the row's place. If there is no row, a new one is added at the
     /// end.
     fn add_by_id(&mut self, id: u32, addition: Addition) -> Result<usize, AllocError>
-        ensures { AddsToRow addition id self.old result self.new }
+        ensures { AddsToRow addition id self.old.rows.entries result self.new.rows.entries }
     {
-        match find(&self.rows, &self.links, u64::from(id)) {
-            Spot::Row(place) => {
+        match self.rows.get_index_of(&id) {
+            Some(place) => {
                 add_at(&mut self.rows, &mut self.places, place, addition)?;
                 Ok(place)
             }
-            Spot::Link(slot) => {
-                let mut row = BlockRow::new(self.alloc);
-                row.add(&mut self.places[self.rows.len() % 32], addition)?;
-                begin_row(&mut self.rows, &mut self.links, slot, id, row)
+            None => {
+                let place = self.rows.len();
+                let mut row = BlockRow::new(self.alloc, *self.rows.hasher());
+                row.add(&mut self.places[place % 32], addition)?;
+                push_new(&mut self.rows, id, row)?;
+                Ok(place)
             }
         }
     }
@@ -538,9 +454,9 @@ impl BlockRows {
         place: usize,
         addition: Addition,
     ) -> Result<(), AllocError>
-        ensures { AddsToRow addition id self.old result self.new }
+        ensures { AddsToRow addition id self.old.rows.entries result self.new.rows.entries }
     {
-        if is_at(&self.rows, place, u64::from(id)) {
+        if is_at(&self.rows, place, id) {
             return add_at(&mut self.rows, &mut self.places, place, addition);
         }
         self.add_by_id(id, addition)?;
@@ -551,7 +467,7 @@ impl BlockRows {
     #[cold]
     #[inline(never)]
     fn begin_by_id(&mut self, id: u32) -> Result<usize, AllocError>
-        ensures { AddsToRow addition.Block id self.old result self.new }
+        ensures { AddsToRow addition.Block id self.old.rows.entries result self.new.rows.entries }
     {
         let place = self.add_by_id(id, Addition::Block)?;
         self.found[(id % 32) as usize] = u32::try_from(place).unwrap_or(0);
@@ -561,10 +477,10 @@ impl BlockRows {
     /// Counts a block that begins and returns the place of its row, which may be cached.
     #[inline(always)]
     pub(crate) fn begin(&mut self, id: u32) -> Result<usize, AllocError>
-        ensures { AddsToRow addition.Block id self.old result self.new }
+        ensures { AddsToRow addition.Block id self.old.rows.entries result self.new.rows.entries }
     {
         let likely = self.found[(id % 32) as usize] as usize;
-        if !is_at(&self.rows, likely, u64::from(id)) {
+        if !is_at(&self.rows, likely, id) {
             return self.begin_by_id(id);
         }
         add_at(&mut self.rows, &mut self.places, likely, Addition::Block)?;
@@ -585,10 +501,10 @@ impl BlockRows {
         requires width { width ≤ 32 }
         ensures { IfOk result (λ run. (records : List RecordMark)
             × PassesRecords width definitions.now.all room (placed bits.entry) records run
-            × ((tallies : List BlockTally) → block_tallies self.old ≡ cut_rows tallies
-            → block_tallies self.new ≡ cut_rows (rows_after records id tallies))) }
+            × ((tallies : List BlockTally) → block_tallies self.old.rows.entries ≡ cut_rows tallies
+            → block_tallies self.new.rows.entries ≡ cut_rows (rows_after records id tallies))) }
     {
-        if !is_at(&self.rows, place, u64::from(id)) {
+        if !is_at(&self.rows, place, id) {
             return Ok(PassedRun::none(bits, room));
         }
         pass_at(
@@ -603,8 +519,8 @@ impl BlockRows {
     }
 
     /// Each id and its row.
-    pub(crate) fn into_rows(self) -> Vec<(u32, BlockRow)>
-        ensures { result.items ≡ self }
+    pub(crate) fn into_rows(self) -> IndexMap<u32, BlockRow<H>, H>
+        ensures { result ≡ self.rows }
     {
         self.rows
     }

@@ -25,9 +25,10 @@ mod tips;
 use crate::devices::{Output, put_all};
 use crate::keeper::ErrorKeeper;
 use crate::outcome::Outcome;
-use crate::run::{Ran, run};
+use crate::run::{Ran, run_with_hasher};
 use bit_fields::{BufSource, WriteSink};
 use std::alloc::Global;
+use std::hash::RandomState;
 use std::io::{BufReader, BufWriter};
 use std::process::ExitCode;
 use std::{env, io};
@@ -52,7 +53,12 @@ fn tell_system(rt: &HostRuntime, error: Option<io::Error>) {
 }
 
 /// Runs the program on standard input, output and errors. All but the last have a buffer.
-fn run_here(alloc: Global, rt: &HostRuntime, words: Vec<String>) -> io::Result<u8> {
+fn run_here(
+    alloc: Global,
+    rt: &HostRuntime,
+    hasher: RandomState,
+    words: Vec<String>,
+) -> io::Result<u8> {
     let reader = BufReader::with_capacity(alloc, CHUNK, ErrorKeeper::new(rt.stdin()))?;
     let writer = BufWriter::with_capacity(alloc, CHUNK, ErrorKeeper::new(rt.stdout()))?;
     let mut errors = WriteSink::new(rt.stderr());
@@ -61,7 +67,7 @@ fn run_here(alloc: Global, rt: &HostRuntime, words: Vec<String>) -> io::Result<u
         status,
         source,
         sink,
-    } = run(alloc, words, source, sink, &mut errors);
+    } = run_with_hasher(alloc, hasher, words, source, sink, &mut errors);
     let (reader, writer) = (source.into_inner(), sink.into_inner());
     if status == Outcome::Read.status() {
         tell_system(rt, writer.get_ref().error().or(reader.get_ref().error()));
@@ -83,10 +89,22 @@ fn refuse(rt: &HostRuntime, error: io::Error) -> u8 {
     outcome.status()
 }
 
+/// Reports that the system gives no keys for a hasher.
+fn refuse_without_keys(rt: &HostRuntime) -> u8 {
+    let _ = put_all(
+        &mut WriteSink::new(rt.stderr()),
+        b"fault: no random bytes\n",
+    );
+    Outcome::Read.status()
+}
+
 fn main(rt: HostRuntime) -> ExitCode {
     let alloc = rt.alloc();
-    let status = words_of(alloc, &rt)
-        .and_then(|words| run_here(alloc, &rt, words))
-        .unwrap_or_else(|error| refuse(&rt, error));
+    let status = match RandomState::new(&rt) {
+        Ok(hasher) => words_of(alloc, &rt)
+            .and_then(|words| run_here(alloc, &rt, hasher, words))
+            .unwrap_or_else(|error| refuse(&rt, error)),
+        Err(_) => refuse_without_keys(&rt),
+    };
     ExitCode::from(status)
 }

@@ -20,10 +20,11 @@ use crate::task::{Explain, LeftOut, Task};
 use bit_events::check;
 use bit_fields::{Fault, Limits, Sink, Source};
 use bit_norm::{Difference, Which, first_difference_in_parts, normalise};
-use bit_scan::{EventStyle, Format, write_events, write_report_as, write_show};
+use bit_scan::{EventStyle, Format, write_events, write_report_with_hasher, write_show};
 use bit_text::{AssembleFault, assemble};
 use bit_tree::Info;
 use std::alloc::{AllocError, Global};
+use std::hash::BuildHasher;
 
 /// The outcome of a fault, under a limit on bytes.
 fn outcome_of(limit: u64, fault: Fault) -> Outcome
@@ -219,8 +220,9 @@ fn perform_same<S: Source, K: Sink>(
 }
 
 /// Writes the report of the input's analysis.
-fn perform_analyse<S: Source, K: Sink>(
+fn perform_analyse<S: Source, K: Sink, H: BuildHasher + Copy>(
     alloc: Global,
+    hasher: H,
     limits: Limits,
     format: Format,
     source: S,
@@ -229,7 +231,9 @@ fn perform_analyse<S: Source, K: Sink>(
     ensures { Does (TaskValue.Analyse limits format) (S.incoming source) (S.incoming result.1)
         (K.outgoing sink) (K.outgoing result.2) result.0 }
 {
-    let (answer, source, sink) = write_report_as(alloc, source, sink, limits, format);
+    let (answer, source, sink) = write_report_with_hasher(
+        alloc, source, sink, limits, format, hasher,
+    );
     (outcome_of_writing(limits.bytes(), answer), source, sink)
 }
 
@@ -289,7 +293,13 @@ fn perform_assemble<S: Source, K: Sink>(
 }
 
 /// Carries out a command, up to the flush.
-fn carry_out<S: Source, K: Sink>(alloc: Global, task: Task, source: S, sink: K) -> (Outcome, S, K)
+fn carry_out<S: Source, K: Sink, H: BuildHasher + Copy>(
+    alloc: Global,
+    hasher: H,
+    task: Task,
+    source: S,
+    sink: K,
+) -> (Outcome, S, K)
     ensures { Does task (S.incoming source) (S.incoming result.1) (K.outgoing sink)
         (K.outgoing result.2) result.0 }
 {
@@ -302,7 +312,9 @@ fn carry_out<S: Source, K: Sink>(alloc: Global, task: Task, source: S, sink: K) 
             limits,
             left,
         } => perform_same(alloc, first, explain, limits, left, source, sink),
-        Task::Analyse { limits, format } => perform_analyse(alloc, limits, format, source, sink),
+        Task::Analyse { limits, format } => perform_analyse(
+            alloc, hasher, limits, format, source, sink,
+        ),
         Task::Show { limits, left } => perform_show(alloc, limits, left, source, sink),
         Task::Events { limits, style } => perform_events(alloc, limits, style, source, sink),
         Task::Assemble { limits } => perform_assemble(alloc, limits, source, sink),
@@ -324,8 +336,9 @@ fn settle<K: Flush>(outcome: Outcome, sink: &mut K) -> Outcome
 }
 
 /// Carries out a command and returns how it ended. The output is flushed if the command gave an answer or refused its input.
-pub fn perform<S: Source, K: Flush>(
+pub fn perform<S: Source, K: Flush, H: BuildHasher + Copy>(
     alloc: Global,
+    hasher: H,
     task: Task,
     source: S,
     sink: K,
@@ -334,7 +347,7 @@ pub fn perform<S: Source, K: Flush>(
         (K.outgoing result.2) result.0 }
     ensures handed_on { status_of result.0 ≤ 1 → K.handed_on result.2 }
 {
-    let (outcome, source, mut sink) = carry_out(alloc, task, source, sink);
+    let (outcome, source, mut sink) = carry_out(alloc, hasher, task, source, sink);
     let outcome = settle(outcome, &mut sink);
     (outcome, source, sink)
 }

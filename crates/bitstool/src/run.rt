@@ -21,6 +21,7 @@ use crate::task::{LeftOut, Parsed, Task};
 use crate::tips::tip_of;
 use bit_fields::{Limits, Shapes, Sink, SinkFailed, Source, SourceFailed};
 use std::alloc::Global;
+use std::hash::{BuildHasher, BuildHasherDefault, FoldHasher};
 
 /// The result of a run: its exit status, and the devices.
 #[derive(Debug, Drop)]
@@ -89,8 +90,9 @@ fn tell_command<K: Sink>(
 }
 
 /// Carries out a command.
-fn obey_task<S: Source, K: Flush, E: Sink>(
+fn obey_task<S: Source, K: Flush, E: Sink, H: BuildHasher + Copy>(
     alloc: Global,
+    hasher: H,
     task: Task,
     mut source: S,
     sink: K,
@@ -104,7 +106,7 @@ fn obey_task<S: Source, K: Flush, E: Sink>(
     let shapes = task.limits().shapes();
     match look_at(&mut source, task.most_shown()) {
         Ok(beginning) => {
-            let (outcome, source, sink) = perform(alloc, task, source, sink);
+            let (outcome, source, sink) = perform(alloc, hasher, task, source, sink);
             let status = tell_command(shapes, beginning, outcome, errors);
             Ran {
                 status,
@@ -124,8 +126,9 @@ fn obey_task<S: Source, K: Flush, E: Sink>(
 }
 
 /// Does what the arguments ask for.
-fn obey<S: Source, K: Flush, E: Sink>(
+fn obey<S: Source, K: Flush, E: Sink, H: BuildHasher + Copy>(
     alloc: Global,
+    hasher: H,
     parsed: Parsed,
     source: S,
     mut sink: K,
@@ -137,7 +140,7 @@ fn obey<S: Source, K: Flush, E: Sink>(
     ensures handed_on { result.status ≤ 1 → K.handed_on result.sink }
 {
     match parsed {
-        Parsed::Task(task) => obey_task(alloc, task, source, sink, errors),
+        Parsed::Task(task) => obey_task(alloc, hasher, task, source, sink, errors),
         Parsed::Help(text) => {
             let outcome = help(&mut sink, text.as_bytes());
             let status = tell(outcome, errors);
@@ -170,9 +173,10 @@ fn obey<S: Source, K: Flush, E: Sink>(
 /// The whole program on these arguments, which exclude its name. It reads its input from the source, writes its output to the sink,
 /// and writes one line to the errors if it refuses the input or fails. The status is 0 if it succeeds or finds two inputs the same,
 /// 1 if it refuses an input or finds two inputs different, 2 if the arguments are no command, and 3 if the source or the sink
-/// fails or memory runs out.
-pub fn run<S: Source, K: Flush, E: Sink>(
+/// fails or memory runs out. The rows of an analysis are found by the hasher.
+pub fn run_with_hasher<S: Source, K: Flush, E: Sink, H: BuildHasher + Copy>(
     alloc: Global,
+    hasher: H,
     words: Vec<String>,
     source: S,
     sink: K,
@@ -200,5 +204,34 @@ pub fn run<S: Source, K: Flush, E: Sink>(
     } else {
         parse(alloc, words)
     };
-    obey(alloc, parsed, source, sink, errors)
+    obey(alloc, hasher, parsed, source, sink, errors)
+}
+
+/// The same with the hasher of `IndexMap`, whose seed is fixed.
+pub fn run<S: Source, K: Flush, E: Sink>(
+    alloc: Global,
+    words: Vec<String>,
+    source: S,
+    sink: K,
+    errors: &mut E,
+) -> Ran<S, K>
+    ensures plain { words.items ≡ [] → (left : LeftOutValue) × (setting_for left ≡ keep)
+        × Runs (ParsedValue.Task (TaskValue.Normal usual_limits left))
+        (S.incoming source) (S.incoming result.source) (K.outgoing sink) (K.outgoing result.sink)
+        (E.outgoing errors.old) (E.outgoing errors.new) result.status }
+    ensures any { (words.items ≡ [] → ⊥) → (parsed : ParsedValue)
+        × Says (help_last (map string_bytes words.items)) parsed
+        × Runs parsed (S.incoming source) (S.incoming result.source) (K.outgoing sink)
+        (K.outgoing result.sink)
+        (E.outgoing errors.old) (E.outgoing errors.new) result.status }
+    ensures handed_on { result.status ≤ 1 → K.handed_on result.sink }
+{
+    run_with_hasher(
+        alloc,
+        BuildHasherDefault::<FoldHasher>::new(),
+        words,
+        source,
+        sink,
+        errors,
+    )
 }

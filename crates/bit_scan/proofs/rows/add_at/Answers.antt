@@ -1,15 +1,7 @@
-use Rattle.std.proofs.lemmas.Option.{slice_get-get_or}
 use Rattle.bit_scan.proofs.Changes.{added_at}
-use Rattle.bit_scan.proofs.Changing.{keys_set}
 use Rattle.bit_scan.proofs.rows.add_at.Goals as goal
 
-pub returns-clause-keys : goal.returns-clause-keys
-returns-clause-keys c =
-    let e = c.index-rows-place.result in
-    rw (← c.index-rows-place.is) (keys_set c.args.rows.now c.args.place e.0 e.1 c.add.new.self (rw (← c.index-rows-place.is) at (slice_get-get_or c.args.rows.now c.args.place e c.requires)))
-
-pub returns-clause-adds : goal.returns-clause-adds
-returns-clause-adds c id tallies distinct at shown =
-    let e = c.index-rows-place.result in
-    rw (← c.index-rows-place.is)
-    (added_at c.add.result c.args.rows.now tallies id e.0 c.args.place c.args.addition e.1 c.add.new.self (rw (← c.index-rows-place.is) at (c.add.ensures id)) distinct (rw (← c.index-rows-place.is) at (slice_get-get_or c.args.rows.now c.args.place e c.requires)) at shown)
+pub returns : goal.returns
+returns g c id tallies at shown =
+    let row = c.pair_mut-row in
+    added_at c.add.result c.args.rows.now.entries tallies id row.result.0.now c.args.place c.args.addition row.result.1.now c.add.new.self (c.add.ensures id) row.ensures.unique row.ensures.value at shown

@@ -3,4 +3,4 @@ use Rattle.bit_scan.proofs.Counted.{gathers_counts}
 use Rattle.bit_scan.proofs.counter.CounterGatherer.define.Goals as goal
 
 pub returns-clause-gathers : goal.returns-clause-gathers
-returns-clause-gathers c = gathers_counts c.args.self.now c.count_here.new.self (defines (record { ops = c.args._abbrev.now; first = c.args._first; after = c.args._after })) c.count_here.result c.count_here.ensures
+returns-clause-gathers g c = gathers_counts c.args.self.now c.count_here.new.self (defines (record { ops = c.args._abbrev.now; first = c.args._first; after = c.args._after })) c.count_here.result c.count_here.ensures

@@ -9,7 +9,7 @@ use Rattle.bit_scan.proofs.Counted.{gathers_counts, then_same, same_values}
 use Rattle.bit_scan.proofs.counter.CounterGatherer.record.Goals as goal
 
 pub returns-clause-gathers : goal.returns-clause-gathers
-returns-clause-gathers c =
+returns-clause-gathers g c =
     each_list (λ (list : List ℕ). c.args.values.now.count ≡ min (length list) (2 ^ 64 - 1)) _ c.count_here.result (λ list took.
     let event : Event = notes (record { abbreviation = c.args.id; code = c.args.code; values = list; first = c.args.first; after = c.args.after }) in
     gathers_counts c.args.self.now c.count_here.new.self event c.count_here.result (λ counts is.

@@ -1,7 +1,7 @@
 use Rattle.std.proofs.Common.{◌≡◌, sym, ap, arith, true, false, length, true≢false}
 use Rattle.std.specs.Vec.{vec_len}
-use Rattle.bitstool.proofs.run.run.Goals.{then-is_empty, else-is_empty}
-use Rattle.bitstool.proofs.run.run.Goals as goal
+use Rattle.bitstool.proofs.run.run_with_hasher.Goals.{then-is_empty, else-is_empty}
+use Rattle.bitstool.proofs.run.run_with_hasher.Goals as goal
 
 pub returns-clause-plain : goal.returns-clause-plain
 returns-clause-plain g c none = elim c.if-is_empty.branch [
