@@ -12,6 +12,7 @@ use Rattle.bit_fields.specs.Devices.{Incoming, Outgoing}
 use Rattle.bit_norm.specs.Whole.{Normalises}
 use Rattle.bit_scan.specs.Reporting.{Reports}
 use Rattle.bit_scan.specs.Showing.{Shows}
+use Rattle.bit_c.specs.declared.keys.BsKeys.{BsKeys}
 use Rattle.bit_c.specs.declared.outcome.Outcome.{Outcome}
 use Rattle.bit_c.specs.declared.outcome.Outcome.TheVariants.{Memory}
 use Rattle.bit_c.specs.declared.texts.Text.{Text}
@@ -24,7 +25,7 @@ use Rattle.bit_c.proofs.Inputs.{known}
 -- an allocation may fail for any text
 pub no_memory : (text : Text) (setting : Setting) (limits : blocks.Limits) (bytes : List ℕ) → FailsText text setting limits bytes Memory
 no_memory Form setting limits bytes = tt
-no_memory Report setting limits bytes = tt
+no_memory (Report keys) setting limits bytes = tt
 no_memory Listing setting limits bytes = tt
 
 by_fault : (setting : Setting) (limits : blocks.Limits) (i now : Incoming) (bytes : List ℕ) (old new : Outgoing) (why : Fault) (text : Option (List ℕ)) → i.to_come ≡ Some bytes
@@ -45,20 +46,20 @@ not_made setting limits i now bytes old new answer why outcome text is is_err en
 
 -- ---- reports and listings
 
-unreported : (limits : blocks.Limits) (i now : Incoming) (bytes : List ℕ) (old new : Outgoing) (why : Fault) (text : Option (List ℕ)) → i.to_come ≡ Some bytes
-    → Reports limits i old (Err why) now new → Makes (IsTextOf Report keep limits bytes) (FailsText Report keep limits bytes) (ended_by 0 why) text
-unreported limits i now bytes old new (fault.Refused reason bit) text is h = (refl, known i.to_come bytes (λ b. BreaksInput limits b (at reason bit)) is h.0.1)
-unreported limits i now bytes old new fault.Write text is h = tt
-unreported limits i now bytes old new fault.Read text is h = tt
-unreported limits i now bytes old new fault.Memory text is h = tt
-unreported limits i now bytes old new fault.OutputTooLong text is h = absurd h
-unreported limits i now bytes old new fault.Failed text is h = absurd h
+unreported : (keys : BsKeys) (limits : blocks.Limits) (i now : Incoming) (bytes : List ℕ) (old new : Outgoing) (why : Fault) (text : Option (List ℕ)) → i.to_come ≡ Some bytes
+    → Reports limits i old (Err why) now new → Makes (IsTextOf (Report keys) keep limits bytes) (FailsText (Report keys) keep limits bytes) (ended_by 0 why) text
+unreported keys limits i now bytes old new (fault.Refused reason bit) text is h = (refl, known i.to_come bytes (λ b. BreaksInput limits b (at reason bit)) is h.0.1)
+unreported keys limits i now bytes old new fault.Write text is h = tt
+unreported keys limits i now bytes old new fault.Read text is h = tt
+unreported keys limits i now bytes old new fault.Memory text is h = tt
+unreported keys limits i now bytes old new fault.OutputTooLong text is h = absurd h
+unreported keys limits i now bytes old new fault.Failed text is h = absurd h
 
-pub not_reported : (limits : blocks.Limits) (i now : Incoming) (bytes : List ℕ) (old new : Outgoing) (answer : Result (Unit {0}) Fault) (why : Fault) (outcome : Outcome) (text : Option (List ℕ))
-    → i.to_come ≡ Some bytes → answer ≡ Err why → outcome ≡ ended_by 0 why → Reports limits i old answer now new → Makes (IsTextOf Report keep limits bytes) (FailsText Report keep limits bytes) outcome text
-not_reported limits i now bytes old new answer why outcome text is is_err ended h =
-    subst (λ (o : Outcome). Makes (IsTextOf Report keep limits bytes) (FailsText Report keep limits bytes) o text) (sym ended)
-    (unreported limits i now bytes old new why text is (subst (λ (a : Result (Unit {0}) Fault). Reports limits i old a now new) is_err h))
+pub not_reported : (keys : BsKeys) (limits : blocks.Limits) (i now : Incoming) (bytes : List ℕ) (old new : Outgoing) (answer : Result (Unit {0}) Fault) (why : Fault) (outcome : Outcome) (text : Option (List ℕ))
+    → i.to_come ≡ Some bytes → answer ≡ Err why → outcome ≡ ended_by 0 why → Reports limits i old answer now new → Makes (IsTextOf (Report keys) keep limits bytes) (FailsText (Report keys) keep limits bytes) outcome text
+not_reported keys limits i now bytes old new answer why outcome text is is_err ended h =
+    subst (λ (o : Outcome). Makes (IsTextOf (Report keys) keep limits bytes) (FailsText (Report keys) keep limits bytes) o text) (sym ended)
+    (unreported keys limits i now bytes old new why text is (subst (λ (a : Result (Unit {0}) Fault). Reports limits i old a now new) is_err h))
 
 unlisted : (setting : Setting) (limits : blocks.Limits) (i now : Incoming) (bytes : List ℕ) (old new : Outgoing) (why : Fault) (text : Option (List ℕ)) → i.to_come ≡ Some bytes
     → Shows setting limits i old (Err why) now new → Makes (IsTextOf Listing setting limits bytes) (FailsText Listing setting limits bytes) (ended_by 0 why) text

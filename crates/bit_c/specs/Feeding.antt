@@ -10,6 +10,7 @@ use Rattle.bit_c.specs.declared.analysing.BsCodeRow.{BsCodeRow}
 use Rattle.bit_c.specs.declared.analysing.BsTally.{BsTally}
 use Rattle.bit_c.specs.declared.home.Home.{Home}
 use Rattle.bit_c.specs.declared.home.Home.TheVariants as home
+use Rattle.bit_c.specs.declared.keys.BsKeys.{BsKeys}
 use Rattle.bit_c.specs.declared.left_out.BsLeftOut.{BsLeftOut}
 use Rattle.bit_c.specs.declared.outcome.Outcome.{Outcome}
 use Rattle.bit_c.specs.declared.outcome.Outcome.TheVariants.{Done, Limits, Memory, Closed}
@@ -106,20 +107,20 @@ HoldsFed text limits out None new outcome = AsksWithin limits out (new ≡ None)
 -- ---- the report
 
 -- the report of bytes was made, with limits that may be past their caps; or not, for this reason
-abbrev pub MakesReport : blocks.Limits → (bytes : List ℕ) → Result (Vec ℕ) Outcome → Type 0
-MakesReport limits bytes made = ((made ≡ Err Limits) × PassCaps limits)
-    ⊎ (Capped limits × MakesUnder Report keep limits bytes made)
+abbrev pub MakesReport : BsKeys → blocks.Limits → (bytes : List ℕ) → Result (Vec ℕ) Outcome → Type 0
+MakesReport keys limits bytes made = ((made ≡ Err Limits) × PassCaps limits)
+    ⊎ (Capped limits × MakesUnder (Report keys) keep limits bytes made)
 
 -- the same for the input that a handle gathers, which may gather none
-abbrev pub ReportsIn : blocks.Limits → Home → Result (Vec ℕ) Outcome → Type 0
-ReportsIn limits (home.Input bytes) made = MakesReport limits bytes.items made
-ReportsIn limits other made = made ≡ Err Closed
+abbrev pub ReportsIn : BsKeys → blocks.Limits → Home → Result (Vec ℕ) Outcome → Type 0
+ReportsIn keys limits (home.Input bytes) made = MakesReport keys limits bytes.items made
+ReportsIn keys limits other made = made ≡ Err Closed
 
 -- The report of the input that a handle gathered was made, and replaced the input; or not, for this reason, and the handle's object
 -- is unchanged. A closed handle has an input of no bytes, and stays closed if no report was made of it.
-abbrev pub ReportsFed : blocks.Limits → Option Home → Option Home → Outcome → Type 0
-ReportsFed limits (Some old) (Some new) outcome = (made : Result (Vec ℕ) Outcome)
-    × ReportsIn limits old made × KeepsMade old made new outcome
-ReportsFed limits (Some old) None outcome = ⊥
-ReportsFed limits None new outcome = Within limits (new ≡ None)
-    (Holds Report keep limits [] new) outcome
+abbrev pub ReportsFed : BsKeys → blocks.Limits → Option Home → Option Home → Outcome → Type 0
+ReportsFed keys limits (Some old) (Some new) outcome = (made : Result (Vec ℕ) Outcome)
+    × ReportsIn keys limits old made × KeepsMade old made new outcome
+ReportsFed keys limits (Some old) None outcome = ⊥
+ReportsFed keys limits None new outcome = Within limits (new ≡ None)
+    (Holds (Report keys) keep limits [] new) outcome

@@ -21,7 +21,7 @@ use Rattle.bit_c.specs.Handing.{HandsText}
 abbrev pub IsTextOf : Text → Setting → blocks.Limits → List ℕ → List ℕ → Type 0
 IsTextOf Form setting limits bytes text = (tree : Tree) × HasTree setting limits bytes tree
     × (bits_of_bytes text ≡ normal_form tree)
-IsTextOf Report setting limits bytes text = (tally : Tally) × HasTally limits bytes tally
+IsTextOf (Report keys) setting limits bytes text = (tally : Tally) × HasTally limits bytes tally
     × (text ≡ report_of tally)
 IsTextOf Listing setting limits bytes text = (tree : Tree) × HasTree setting limits bytes tree
     × (text ≡ listing_of tree)

@@ -7,11 +7,12 @@ ghost use Rattle.bit_c.specs.Ending.{EndsCall};
 ghost use Rattle.bit_c.specs.Limiting.{Within, limits_told};
 ghost use Rattle.bit_c.specs.Rows.{Analyses, GivesRows, GivesTally, LeavesRows, code_told, codes_told, no_tally, row_told};
 
+use crate::keys::BsKeys;
 use crate::limits::BsLimits;
 use crate::outcome::{BsFault, Outcome};
 use crate::room::put;
 use bit_fields::{Limits, SliceSource};
-use bit_scan::{Analysis, BlockRow, Codes, analyse};
+use bit_scan::{Analysis, BlockRow, Codes, analyse_with_hasher};
 use indexmap::IndexMap;
 use std::alloc::{AllocError, Global};
 
@@ -60,8 +61,11 @@ pub(crate) const NO_TALLY: BsTally = BsTally {
     codes: 0,
 };
 
+/// Rows of an analysis that are found by keys.
+type Rows = IndexMap<u32, BlockRow<BsKeys>, BsKeys>;
+
 /// A row as C sees it.
-fn block_row(id: u32, row: &BlockRow) -> BsBlockRow
+fn block_row(id: u32, row: &BlockRow<BsKeys>) -> BsBlockRow
     ensures { result ≡ row_told (block_tally (id, row.now)) }
 {
     BsBlockRow {
@@ -77,7 +81,7 @@ fn block_row(id: u32, row: &BlockRow) -> BsBlockRow
 }
 
 /// The rows of block ids, as C sees them.
-fn block_rows(alloc: Global, rows: &IndexMap<u32, BlockRow>) -> Result<Vec<BsBlockRow>, AllocError>
+fn block_rows(alloc: Global, rows: &Rows) -> Result<Vec<BsBlockRow>, AllocError>
     ensures { IfOk result (λ out. out.items ≡ map row_told (block_tallies rows.now.entries)) }
 {
     let mut out = Vec::new(alloc);
@@ -88,7 +92,7 @@ fn block_rows(alloc: Global, rows: &IndexMap<u32, BlockRow>) -> Result<Vec<BsBlo
 }
 
 /// Adds the rows of codes of a block id, as C sees them.
-fn add_codes(out: &mut Vec<BsCodeRow>, codes: &Codes) -> Result<(), AllocError>
+fn add_codes(out: &mut Vec<BsCodeRow>, codes: &Codes<BsKeys>) -> Result<(), AllocError>
     ensures { OnOk result
         (out.new.items ≡ out.old.items ++ map code_told (code_tallies codes.now)) }
 {
@@ -103,7 +107,7 @@ fn add_codes(out: &mut Vec<BsCodeRow>, codes: &Codes) -> Result<(), AllocError>
 }
 
 /// The rows of codes of all block ids, as C sees them.
-fn code_rows(alloc: Global, rows: &IndexMap<u32, BlockRow>) -> Result<Vec<BsCodeRow>, AllocError>
+fn code_rows(alloc: Global, rows: &Rows) -> Result<Vec<BsCodeRow>, AllocError>
     ensures { IfOk result (λ out. out.items ≡ codes_told (block_tallies rows.now.entries)) }
 {
     let mut out = Vec::new(alloc);
@@ -134,7 +138,7 @@ fn give_rows(
 /// Sets an analysis, and hands out its rows.
 fn give_tally(
     alloc: Global,
-    analysis: &Analysis,
+    analysis: &Analysis<BsKeys>,
     tally: &mut BsTally,
     block_room: &mut [BsBlockRow],
     code_room: &mut [BsCodeRow],
@@ -163,6 +167,7 @@ fn analyse_under(
     alloc: Global,
     bytes: &[u8],
     limits: Limits,
+    keys: BsKeys,
     tally: &mut BsTally,
     block_room: &mut [BsBlockRow],
     code_room: &mut [BsCodeRow],
@@ -170,7 +175,7 @@ fn analyse_under(
     ensures { Analyses limits bytes.now tally.new block_room.old block_room.new code_room.old
         code_room.new result }
 {
-    let (answer, _) = analyse(alloc, SliceSource::new(bytes), limits);
+    let (answer, _) = analyse_with_hasher(alloc, SliceSource::new(bytes), limits, keys);
     match answer {
         Ok(analysis) => give_tally(alloc, &analysis, tally, block_room, code_room),
         Err(fault) => {
@@ -185,6 +190,7 @@ pub(crate) fn analyse_within(
     alloc: Global,
     bytes: &[u8],
     limits: &BsLimits,
+    keys: BsKeys,
     tally: &mut BsTally,
     block_room: &mut [BsBlockRow],
     code_room: &mut [BsCodeRow],
@@ -195,7 +201,7 @@ pub(crate) fn analyse_within(
         code_room.new) result }
 {
     match limits.to_limits() {
-        Some(limits) => analyse_under(alloc, bytes, limits, tally, block_room, code_room),
+        Some(limits) => analyse_under(alloc, bytes, limits, keys, tally, block_room, code_room),
         None => {
             *tally = NO_TALLY;
             Outcome::Limits
@@ -214,11 +220,12 @@ pub extern "C" fn bs_analyse(
     block_room: &mut [BsBlockRow],
     code_room: &mut [BsCodeRow],
     fault: &mut BsFault,
+    keys: &BsKeys,
 ) -> u32
     ensures { let l = limits_told limits.now in EndsCall result fault.new
         (Within l ((tally.new ≡ no_tally) × LeavesRows block_room.old block_room.new code_room.old
         code_room.new) (Analyses l bytes.now tally.new block_room.old block_room.new code_room.old
         code_room.new)) }
 {
-    analyse_within(alloc, bytes, limits, tally, block_room, code_room).tell(fault)
+    analyse_within(alloc, bytes, limits, *keys, tally, block_room, code_room).tell(fault)
 }

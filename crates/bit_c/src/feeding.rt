@@ -12,6 +12,7 @@ use crate::checking::judge_within;
 use crate::handle::{BsHandle, handle_of, take_out};
 use crate::holding::{hold_asked, hold_report_within};
 use crate::home::{HeldText, Home};
+use crate::keys::BsKeys;
 use crate::left_out::{BsLeftOut, asked_of};
 use crate::limits::BsLimits;
 use crate::outcome::{BsFault, Outcome};
@@ -124,6 +125,7 @@ fn analyse_in(
     alloc: Global,
     home: &Home,
     limits: &BsLimits,
+    keys: BsKeys,
     tally: &mut BsTally,
     block_room: &mut [BsBlockRow],
     code_room: &mut [BsCodeRow],
@@ -137,6 +139,7 @@ fn analyse_in(
                 alloc,
                 bytes.as_slice(),
                 limits,
+                keys,
                 tally,
                 block_room,
                 code_room,
@@ -154,6 +157,7 @@ fn analyse_of(
     alloc: Global,
     handle: &mut BsHandle,
     limits: &BsLimits,
+    keys: BsKeys,
     tally: &mut BsTally,
     block_room: &mut [BsBlockRow],
     code_room: &mut [BsCodeRow],
@@ -164,11 +168,11 @@ fn analyse_of(
 {
     match take_out(alloc, handle) {
         Some(home) => {
-            let outcome = analyse_in(alloc, &home, limits, tally, block_room, code_room);
+            let outcome = analyse_in(alloc, &home, limits, keys, tally, block_room, code_room);
             *handle = handle_of(home);
             outcome
         }
-        None => analyse_within(alloc, &[], limits, tally, block_room, code_room),
+        None => analyse_within(alloc, &[], limits, keys, tally, block_room, code_room),
     }
 }
 
@@ -182,13 +186,14 @@ pub extern "C" fn bs_fed_analyse(
     block_room: &mut [BsBlockRow],
     code_room: &mut [BsCodeRow],
     fault: &mut BsFault,
+    keys: &BsKeys,
 ) -> u32
     ensures kept { handle.new.inner.home ≡ handle.old.inner.home }
     ensures tells { EndsCall result fault.new (AnalysesFed (limits_told limits.now)
         handle.old.inner.home tally.new block_room.old block_room.new code_room.old
         code_room.new) }
 {
-    analyse_of(alloc, handle, limits, tally, block_room, code_room).tell(fault)
+    analyse_of(alloc, handle, limits, *keys, tally, block_room, code_room).tell(fault)
 }
 
 /// Makes a text of some bytes.
@@ -292,37 +297,48 @@ pub extern "C" fn bs_fed_normal(
 }
 
 /// Makes the report of some bytes, with limits that may be past their caps.
-fn report_within(alloc: Global, bytes: &[u8], limits: &BsLimits) -> Result<Vec<u8>, Outcome>
-    ensures { MakesReport (limits_told limits.now) bytes.now result }
+fn report_within(
+    alloc: Global,
+    bytes: &[u8],
+    limits: &BsLimits,
+    keys: BsKeys,
+) -> Result<Vec<u8>, Outcome>
+    ensures { MakesReport keys (limits_told limits.now) bytes.now result }
 {
     match limits.to_limits() {
-        Some(limits) => make_under(alloc, bytes, limits, Text::Report, Info::Keep),
+        Some(limits) => make_under(alloc, bytes, limits, Text::Report(keys), Info::Keep),
         None => Err(Outcome::Limits),
     }
 }
 
 /// The same for the input of a handle's object.
-fn report_in(alloc: Global, home: &Home, limits: &BsLimits) -> Result<Vec<u8>, Outcome>
-    ensures { ReportsIn (limits_told limits.now) home.now result }
+fn report_in(
+    alloc: Global,
+    home: &Home,
+    limits: &BsLimits,
+    keys: BsKeys,
+) -> Result<Vec<u8>, Outcome>
+    ensures { ReportsIn keys (limits_told limits.now) home.now result }
 {
     match home {
-        Home::Input(bytes) => report_within(alloc, bytes.as_slice(), limits),
+        Home::Input(bytes) => report_within(alloc, bytes.as_slice(), limits, keys),
         Home::Reading(_) | Home::Text(_) | Home::Writing(_) => Err(Outcome::Closed),
     }
 }
 
 /// Makes the report of the input of a handle. It replaces the input.
-fn hold_report_of(alloc: Global, handle: &mut BsHandle, limits: &BsLimits) -> Outcome
-    ensures { ReportsFed (limits_told limits.now) handle.old.inner.home handle.new.inner.home result }
+fn hold_report_of(alloc: Global, handle: &mut BsHandle, limits: &BsLimits, keys: BsKeys) -> Outcome
+    ensures { ReportsFed keys (limits_told limits.now) handle.old.inner.home handle.new.inner.home
+        result }
 {
     match take_out(alloc, handle) {
         Some(mut home) => {
-            let made = report_in(alloc, &home, limits);
+            let made = report_in(alloc, &home, limits, keys);
             let outcome = keep_made(&mut home, made);
             *handle = handle_of(home);
             outcome
         }
-        None => hold_report_within(alloc, &[], limits, handle),
+        None => hold_report_within(alloc, &[], limits, keys, handle),
     }
 }
 
@@ -333,11 +349,12 @@ pub extern "C" fn bs_fed_report(
     handle: &mut BsHandle,
     limits: &BsLimits,
     fault: &mut BsFault,
+    keys: &BsKeys,
 ) -> u32
     ensures { EndsCall result fault.new
-        (ReportsFed (limits_told limits.now) handle.old.inner.home handle.new.inner.home) }
+        (ReportsFed keys.now (limits_told limits.now) handle.old.inner.home handle.new.inner.home) }
 {
-    hold_report_of(alloc, handle, limits).tell(fault)
+    hold_report_of(alloc, handle, limits, *keys).tell(fault)
 }
 
 /// The same for the listing, whole or without what is left out.

@@ -10,6 +10,7 @@ ghost use Rattle.bit_c.specs.declared.texts.Text.{Text as TextTold};
 
 use crate::handle::{BsHandle, handle_of, take_out};
 use crate::home::{HeldText, Home};
+use crate::keys::BsKeys;
 use crate::left_out::{BsLeftOut, asked_of};
 use crate::limits::BsLimits;
 use crate::outcome::{BsFault, Outcome};
@@ -70,14 +71,15 @@ pub(crate) fn hold_report_within(
     alloc: Global,
     bytes: &[u8],
     limits: &BsLimits,
+    keys: BsKeys,
     handle: &mut BsHandle,
 ) -> Outcome
     ensures { let l = limits_told limits.now in let new = handle.new.inner.home
-        in Within l (new ≡ None) (Holds TextTold.Report keep l bytes.now new) result }
+        in Within l (new ≡ None) (Holds (TextTold.Report keys) keep l bytes.now new) result }
 {
     let _ = take_out(alloc, handle);
     match limits.to_limits() {
-        Some(limits) => hold(alloc, bytes, limits, Text::Report, Info::Keep, handle),
+        Some(limits) => hold(alloc, bytes, limits, Text::Report(keys), Info::Keep, handle),
         None => Outcome::Limits,
     }
 }
@@ -128,12 +130,13 @@ pub extern "C" fn bs_hold_report(
     limits: &BsLimits,
     handle: &mut BsHandle,
     fault: &mut BsFault,
+    keys: &BsKeys,
 ) -> u32
     ensures { let l = limits_told limits.now in let new = handle.new.inner.home
         in EndsCall result fault.new (Within l (new ≡ None)
-        (Holds TextTold.Report keep l bytes.now new)) }
+        (Holds (TextTold.Report keys.now) keep l bytes.now new)) }
 {
-    hold_report_within(alloc, bytes, limits, handle).tell(fault)
+    hold_report_within(alloc, bytes, limits, *keys, handle).tell(fault)
 }
 
 /// The same for the listing of bytes, whole or without what is left out.

@@ -25,6 +25,7 @@ mod holding;
 mod home;
 mod inner;
 mod input_bytes;
+mod keys;
 mod left_out;
 mod limits;
 mod operand;
@@ -54,6 +55,7 @@ pub use feeding::{
 pub use feeding_two::{bs_fed_first_difference, bs_fed_same};
 pub use handle::BsHandle;
 pub use holding::{bs_hold_normal, bs_hold_report, bs_hold_show, bs_text};
+pub use keys::BsKeys;
 pub use left_out::{BsLeftOut, BsRecordName};
 pub use limits::{BsLimits, bs_usual_limits};
 pub use operand::BsOperand;

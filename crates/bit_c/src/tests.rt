@@ -4,7 +4,7 @@ use crate::difference::NO_DIFFERENCE;
 use crate::event::NONE;
 use crate::handle::closed_handle;
 use crate::{
-    BsBlockRow, BsCodeRow, BsEvent, BsFault, BsHandle, BsLeftOut, BsLimits, BsMagicBytes,
+    BsBlockRow, BsCodeRow, BsEvent, BsFault, BsHandle, BsKeys, BsLeftOut, BsLimits, BsMagicBytes,
     BsOpenBlock, BsOperand, BsRecordName, BsTally, bs_analyse, bs_assemble, bs_check, bs_close,
     bs_fed_analyse, bs_fed_check, bs_fed_events, bs_fed_first_difference, bs_fed_normal,
     bs_fed_report, bs_fed_same, bs_fed_show, bs_feed, bs_first_difference, bs_hold_normal,
@@ -30,6 +30,12 @@ const NO_FAULT: BsFault = BsFault {
     reason: 0,
     input: 0,
     bit: 0,
+};
+
+/// Keys as C may draw them.
+const KEYS: BsKeys = BsKeys {
+    first: 7,
+    second: 8,
 };
 
 const WHOLE: BsLeftOut<'static> = BsLeftOut {
@@ -92,7 +98,9 @@ fn given_texts(alloc: Global) -> ([u32; 3], usize) {
     let normal = bs_normal(
         alloc, &THIRTY, &limits, &WHOLE, &mut room, &mut form, &mut fault,
     );
-    let report = bs_report(alloc, &THIRTY, &limits, &mut room, &mut other, &mut fault);
+    let report = bs_report(
+        alloc, &THIRTY, &limits, &mut room, &mut other, &mut fault, &KEYS,
+    );
     let show = bs_show(
         alloc, &THIRTY, &limits, &WHOLE, &mut room, &mut other, &mut fault,
     );
@@ -124,7 +132,7 @@ fn what_is_assembled(rt: HostRuntime) {
 
 fn held_texts(alloc: Global, handle: &mut BsHandle) -> [u32; 4] {
     let (limits, mut fault, mut room, mut needed) = (usual(), NO_FAULT, [0; 64], 0);
-    let report = bs_hold_report(alloc, &THIRTY, &limits, handle, &mut fault);
+    let report = bs_hold_report(alloc, &THIRTY, &limits, handle, &mut fault, &KEYS);
     let show = bs_hold_show(alloc, &THIRTY, &limits, &WHOLE, handle, &mut fault);
     let normal = bs_hold_normal(alloc, &THIRTY, &limits, &WHOLE, handle, &mut fault);
     let text = bs_text(alloc, handle, &mut room, &mut needed, &mut fault);
@@ -194,6 +202,7 @@ fn what_is_counted(rt: HostRuntime) {
         &mut blocks,
         &mut codes,
         &mut fault,
+        &KEYS,
     );
     assert!(rt; status == 0 && tally.bits == 128 && blocks[0].values == 1 && codes[0].code == 1);
 }
@@ -297,6 +306,7 @@ fn fed_pieces(alloc: Global, handle: &mut BsHandle) -> [u32; 7] {
             &mut [],
             &mut [],
             &mut fault,
+            &KEYS,
         ),
         bs_fed_normal(alloc, handle, &limits, &WHOLE, &mut fault),
         bs_fed_show(alloc, handle, &limits, &WHOLE, &mut fault),
@@ -357,7 +367,7 @@ fn fed_pair(alloc: Global, first: &mut BsHandle, second: &mut BsHandle) -> ([u32
             &mut room,
             &mut fault,
         ),
-        bs_fed_report(alloc, second, &limits, &mut fault),
+        bs_fed_report(alloc, second, &limits, &mut fault, &KEYS),
     ];
     (statuses, difference.depth)
 }

@@ -7,6 +7,7 @@ ghost use Rattle.bit_c.specs.Limiting.{AsksWithin, Within, limits_told, setting_
 ghost use Rattle.bit_c.specs.Texts.{FailsText, GivesText, IsTextOf};
 ghost use Rattle.bit_c.specs.declared.texts.Text.{Text as TextTold};
 
+use crate::keys::BsKeys;
 use crate::left_out::{BsLeftOut, asked_of};
 use crate::limits::BsLimits;
 use crate::outcome::{BsFault, Outcome};
@@ -14,7 +15,7 @@ use crate::room::hand;
 use crate::room_sink::RoomSink;
 use bit_fields::{Limits, Sink, SliceSource};
 use bit_norm::{Info, normalise};
-use bit_scan::{write_report, write_show};
+use bit_scan::{Format, write_report_with_hasher, write_show};
 use std::alloc::Global;
 
 /// A text of an input.
@@ -22,7 +23,8 @@ use std::alloc::Global;
 pub(crate) enum Text {
     /// The normal form, under a setting.
     Form,
-    Report,
+    /// The report, whose rows are found by these keys.
+    Report(BsKeys),
     /// The listing, under a setting.
     Listing,
 }
@@ -49,13 +51,27 @@ fn form_of(
 }
 
 /// Makes the report of some bytes, for a room of `room` bytes.
-fn report_of(alloc: Global, bytes: &[u8], limits: Limits, room: usize) -> (Outcome, RoomSink)
-    ensures { Makes (IsTextOf TextTold.Report keep limits bytes.now)
-        (FailsText TextTold.Report keep limits bytes.now) result.0
+fn report_of(
+    alloc: Global,
+    bytes: &[u8],
+    limits: Limits,
+    keys: BsKeys,
+    room: usize,
+) -> (Outcome, RoomSink)
+    ensures { let text = TextTold.Report keys in Makes (IsTextOf text keep limits bytes.now)
+        (FailsText text keep limits bytes.now) result.0
         (⟦<RoomSink as Sink>⟧.outgoing result.1).bytes }
 {
     let sink = RoomSink::new(alloc, room);
-    let (answer, _, sink) = write_report(alloc, SliceSource::new(bytes), sink, limits);
+    let source = SliceSource::new(bytes);
+    let (answer, _, sink) = write_report_with_hasher(
+        alloc,
+        source,
+        sink,
+        limits,
+        Format::Text,
+        keys,
+    );
     match answer {
         Ok(()) => (Outcome::Done, sink),
         Err(fault) => (Outcome::of(0, fault), sink),
@@ -98,7 +114,7 @@ pub(crate) fn make(
 {
     match text {
         Text::Form => form_of(alloc, bytes, limits, info, room),
-        Text::Report => report_of(alloc, bytes, limits, room),
+        Text::Report(keys) => report_of(alloc, bytes, limits, keys, room),
         Text::Listing => listing_of(alloc, bytes, limits, info, room),
     }
 }
@@ -125,14 +141,23 @@ fn report_within(
     alloc: Global,
     bytes: &[u8],
     limits: &BsLimits,
+    keys: BsKeys,
     room: &mut [u8],
     needed: &mut usize,
 ) -> Outcome
     ensures { let l = limits_told limits.now in Within l (LeavesRoom room.old needed.new room.new)
-        (GivesText TextTold.Report keep l bytes.now room.old needed.new room.new) result }
+        (GivesText (TextTold.Report keys) keep l bytes.now room.old needed.new room.new) result }
 {
     match limits.to_limits() {
-        Some(limits) => give(alloc, bytes, limits, Text::Report, Info::Keep, room, needed),
+        Some(limits) => give(
+            alloc,
+            bytes,
+            limits,
+            Text::Report(keys),
+            Info::Keep,
+            room,
+            needed,
+        ),
         None => {
             *needed = 0;
             Outcome::Limits
@@ -192,7 +217,8 @@ pub extern "C" fn bs_normal(
     give_asked(alloc, bytes, limits, left_out, Text::Form, room, needed).tell(fault)
 }
 
-/// Puts the report of an analysis of bytes into the caller's room, and reports its length in bytes.
+/// Puts the report of an analysis of bytes into the caller's room, and reports its length in bytes. The few lines of C before the
+/// call give the keys, as for each call that analyses.
 #[unsafe(no_mangle)]
 pub extern "C" fn bs_report(
     alloc: Global,
@@ -201,12 +227,13 @@ pub extern "C" fn bs_report(
     room: &mut [u8],
     needed: &mut usize,
     fault: &mut BsFault,
+    keys: &BsKeys,
 ) -> u32
     ensures { let l = limits_told limits.now in EndsCall result fault.new
         (Within l (LeavesRoom room.old needed.new room.new)
-        (GivesText TextTold.Report keep l bytes.now room.old needed.new room.new)) }
+        (GivesText (TextTold.Report keys.now) keep l bytes.now room.old needed.new room.new)) }
 {
-    report_within(alloc, bytes, limits, room, needed).tell(fault)
+    report_within(alloc, bytes, limits, *keys, room, needed).tell(fault)
 }
 
 /// Puts the listing of bytes, whole or without what is left out, into the caller's room, and reports its length in bytes.
