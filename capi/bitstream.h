@@ -2,7 +2,8 @@
 
    Each call is a function of Rattle whose contract is proved: docs/PROMISES.md lists them (docs/ of the repository, and below
    PREFIX/share/doc/bitstool where this header is PREFIX/include/bitstream.h). Before it, a few lines of C replace null pointers
-   that have the length 0. The caller's obligations are not checked. If one is not kept, the behaviour of a call is undefined:
+   that have the length 0, and draw random keys for the hashes of an analysis. The caller's obligations are not checked. If one is
+   not kept, the behaviour of a call is undefined:
 
    - A pointer points to an aligned object of its type, and is not null. A pointer with a length points to an array of that length,
      and may be null if the length is 0. Lengths are below 2^63 bytes. Objects that are not const are initialised. No argument that
@@ -22,8 +23,8 @@
    block that makes definitions. A call frees its memory when it ends, except what a handle holds.
 
    The library needs an x86-64 processor of level v2, with SSE4.2 and POPCNT; on an older one a call can end the program by SIGILL.
-   It calls malloc, realloc, free and the memory functions of C, and nothing else: it opens no file, prints nothing, and sets no
-   signal handler. */
+   It calls malloc, realloc, free, getrandom and the memory functions of C, and nothing else: it opens no file, prints nothing, and
+   sets no signal handler. */
 #ifndef BITSTREAM_H
 #define BITSTREAM_H
 
@@ -138,7 +139,7 @@ uint32_t bs_normal(const uint8_t *bytes, size_t bytes_len, const struct bs_limit
 
 /* The same for the report of an analysis, as `bitstool analyse` prints it. It never returns BS_TOO_LONG or BS_NAMES.
 
-   Reads the bytes once. Holds D and the rows of the analysis, at most 30 bytes for a byte of input; and the report if it fits the
+   Reads the bytes once. Holds D and the rows of the analysis, at most 54 bytes for a byte of input; and the report if it fits the
    room. */
 uint32_t bs_report(const uint8_t *bytes, size_t bytes_len, const struct bs_limits *limits, uint8_t *room, size_t room_len,
                    size_t *needed, struct bs_fault *fault);
@@ -270,7 +271,7 @@ struct bs_code_row {
 /* Analyses bytes, and sets the magic, the bits and the numbers of rows. The rows, in order of first entry, go into the rooms,
    all of them or none: BS_DONE, or BS_ROOM; or BS_REFUSED, BS_MEMORY, BS_LIMITS, and then the tally is all zeros.
 
-   Reads the bytes once. Holds D and the rows, at most 30 bytes for a byte of input, and at the end the rows once more as the rooms
+   Reads the bytes once. Holds D and the rows, at most 54 bytes for a byte of input, and at the end the rows once more as the rooms
    take them. */
 uint32_t bs_analyse(const uint8_t *bytes, size_t bytes_len, const struct bs_limits *limits, struct bs_tally *tally,
                     struct bs_block_row *block_room, size_t block_room_len, struct bs_code_row *code_room, size_t code_room_len,
