@@ -4,6 +4,7 @@
 #   c.bc       C with debug information         cxx.bc      C++ with debug information, optimized
 #   rust.bc    Rust with debug information      small.bc    many small functions without debug information
 #   remarks.bc optimization remarks             header.pch  a precompiled header
+#   hello.bc   a small module, as README's hello.c gives it
 set -eu
 here=$(cd "$(dirname "$0")" && pwd)
 mkdir -p "$1" && cd "$1"
@@ -51,7 +52,9 @@ pub fn build(n: usize) -> Vec<Part> {
 }
 RS
 printf '#include <stddef.h>\n#include <stdint.h>\n#include <limits.h>\n' >header.h
+printf 'int puts(const char *);\nint main(void) { return puts("hello"); }\n' >hello.c
 clang-22 -O2 -c -emit-llvm small.c -o small.bc
+clang-22 -c -emit-llvm hello.c -o hello.bc
 clang-22 -O1 -g -w -c -emit-llvm module.c -o c.bc
 clang++-22 -O2 -g -std=c++17 -c -emit-llvm shapes.cc -o cxx.bc
 rustc --edition 2021 --crate-type lib -C debuginfo=2 -C codegen-units=1 --emit=llvm-bc crate.rs -o rust.bc

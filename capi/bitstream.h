@@ -110,7 +110,7 @@ struct bs_bytes {
 
 /* The version of these calls, structures and numbers, and that of a library. They are the same if a program was built for the
    library that it runs with. An added call does not change the version. */
-#define BS_VERSION 4
+#define BS_VERSION 1
 uint32_t bs_version(void);
 
 /* The version of the normal form, and that of a library. Keys that are made from normal forms of the same version may be compared. */

@@ -51,7 +51,7 @@ if TYPE_CHECKING:
 __all__ = ["BadValue", "Difference", "Error", "Event", "Events", "FORM_VERSION", "Input", "LeftOut", "Limits", "Pieces", "Refused",
            "RefusedLine", "Standing", "Unfit", "VERSION", "Writer", "assemble", "check", "events", "first_difference", "magic",
            "normal", "pieces", "report", "same", "show"]
-__version__ = "4"
+__version__ = "1"
 
 _TEXTS = {_library.TOO_LONG: "normal form longer than the limit", _library.LIMITS: "limits: a limit is past its cap",
           _library.CLOSED: "the handle is closed", _library.NAMES: "left_out: a name of records of BLOCKINFO blocks",

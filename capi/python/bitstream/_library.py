@@ -9,7 +9,7 @@ from typing import TYPE_CHECKING, Tuple
 if TYPE_CHECKING:
     from _typeshed import ReadableBuffer
 
-VERSION = 4
+VERSION = 1
 _FILE = "libbitstream.so.%d" % VERSION
 DONE, DIFFERENT, REFUSED, MEMORY, TOO_LONG, LIMITS, ROOM, CLOSED, NAMES, UNFIT = range(10)
 

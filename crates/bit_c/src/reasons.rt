@@ -10,9 +10,9 @@ use bit_text::TextReason;
 /// The version of these calls, structures and numbers: `BS_VERSION` of `capi/bitstream.h`.
 #[unsafe(no_mangle)]
 pub extern "C" fn bs_version() -> u32
-    ensures { result ≡ 4 }
+    ensures { result ≡ 1 }
 {
-    4
+    1
 }
 
 /// The version of the normal form: `BS_FORM_VERSION` of `capi/bitstream.h`.

@@ -36,7 +36,7 @@ fn is_text_byte(byte: u8) -> bool
 }
 
 /// Whether all bytes are a text's.
-fn is_text(bytes: &[u8]) -> bool
+pub fn is_text(bytes: &[u8]) -> bool
     ensures { result ≡ list_all is_text_byte bytes.now }
 {
     bytes.iter().all(|byte| is_text_byte(*byte))

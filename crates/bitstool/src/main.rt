@@ -10,9 +10,12 @@
 mod beginning;
 mod devices;
 mod differences;
+#[cfg(test)]
+mod failing_tests;
 mod json_differences;
 mod keeper;
 mod names;
+mod noted;
 mod outcome;
 mod parse;
 mod perform;
@@ -24,6 +27,7 @@ mod tips;
 
 use crate::devices::{Output, put_all};
 use crate::keeper::ErrorKeeper;
+use crate::noted::{BINARY, Noted, READING};
 use crate::outcome::Outcome;
 use crate::run::{Ran, run_with_hasher};
 use bit_fields::{BufSource, WriteSink};
@@ -59,8 +63,10 @@ fn run_here(
     hasher: RandomState,
     words: Vec<String>,
 ) -> io::Result<u8> {
-    let reader = BufReader::with_capacity(alloc, CHUNK, ErrorKeeper::new(rt.stdin()))?;
-    let writer = BufWriter::with_capacity(alloc, CHUNK, ErrorKeeper::new(rt.stdout()))?;
+    let input = ErrorKeeper::new(Noted::new(rt.stdin(), rt.stderr(), READING));
+    let output = ErrorKeeper::new(Noted::new(rt.stdout(), rt.stderr(), BINARY));
+    let reader = BufReader::with_capacity(alloc, CHUNK, input)?;
+    let writer = BufWriter::with_capacity(alloc, CHUNK, output)?;
     let mut errors = WriteSink::new(rt.stderr());
     let (source, sink) = (BufSource::new(reader), Output::new(writer));
     let Ran {

@@ -2,8 +2,7 @@ use crate::devices::Output;
 use crate::run::run;
 use bit_fields::{BufSource, WriteSink};
 use std::alloc::{AllocError, Global};
-use std::io;
-use std::io::{BufRead, Read, Write};
+use std::io::{BufRead, Write};
 use std::process::Abort;
 use std::test::Fail;
 
@@ -13,7 +12,7 @@ const SHORT: [u8; 16] = [
 ];
 
 /// The same tree, with a wider block and the number in two chunks.
-const LONG: [u8; 16] = [
+pub(crate) const LONG: [u8; 16] = [
     0x42, 0x43, 0xc0, 0xde, 0x21, 0xc, 0, 0, 1, 0, 0, 0, 0xb, 2, 0x1f, 0,
 ];
 
@@ -22,76 +21,6 @@ const INFO: [u8; 32] = [
     0x42, 0x43, 0xc0, 0xde, 1, 8, 0, 0, 2, 0, 0, 0, 7, 1, 0xa2, 0x18, 0x20, 7, 0, 0, 0x21, 0xc, 0,
     0, 1, 0, 0, 0, 0x24, 3, 0, 0,
 ];
-
-/// A writer that takes `room` bytes and then fails, and may fail when it is flushed.
-#[derive(Drop)]
-struct Room {
-    bytes: Vec<u8>,
-    room: usize,
-    flushes: bool,
-}
-
-impl Room {
-    fn new(alloc: Global, room: usize, flushes: bool) -> Room {
-        Room {
-            bytes: Vec::new(alloc),
-            room,
-            flushes,
-        }
-    }
-}
-
-impl Write for Room {
-    fn write(&mut self, from: &[u8]) -> io::Result<usize> {
-        let count = from.len().min(self.room);
-        if count == 0 && !from.is_empty() {
-            return Err(io::Error::from(io::ErrorKind::Other));
-        }
-        self.bytes.extend_from_slice(&from[..count])?;
-        self.room -= count;
-        Ok(count)
-    }
-
-    fn flush(&mut self) -> io::Result<()> {
-        if self.flushes {
-            Ok(())
-        } else {
-            Err(io::Error::from(io::ErrorKind::Other))
-        }
-    }
-}
-
-/// A reader that gives some bytes, at most three at once, and then fails.
-#[derive(Drop)]
-struct Broken<'a> {
-    bytes: &'a [u8],
-}
-
-impl<'a> Read for Broken<'a> {
-    fn read(&mut self, into: &mut [u8]) -> io::Result<usize> {
-        if self.bytes.is_empty() {
-            return Err(io::Error::from(io::ErrorKind::Other));
-        }
-        let most = into.len().min(3);
-        self.bytes.read(&mut into[..most])
-    }
-}
-
-/// It shows at most three bytes at once.
-impl<'a> BufRead for Broken<'a> {
-    fn fill_buf(&mut self) -> io::Result<&[u8]> {
-        if self.bytes.is_empty() {
-            return Err(io::Error::from(io::ErrorKind::Other));
-        }
-        let most = self.bytes.len().min(3);
-        Ok(&self.bytes[..most])
-    }
-
-    fn consume(&mut self, amount: usize) {
-        let count = amount.min(self.bytes.len());
-        self.bytes = &self.bytes[count..];
-    }
-}
 
 /// Appends a word.
 fn add_word(alloc: Global, word: &str, words: &mut Vec<String>) -> Result<(), AllocError> {
@@ -108,7 +37,7 @@ fn add_words(alloc: Global, line: &str, words: &mut Vec<String>) -> Result<(), A
 }
 
 /// The words of a line.
-fn words_of(alloc: Global, line: &str) -> Result<Vec<String>, AllocError> {
+pub(crate) fn words_of(alloc: Global, line: &str) -> Result<Vec<String>, AllocError> {
     let mut words = Vec::new(alloc);
     add_words(alloc, line, &mut words)?;
     Ok(words)
@@ -116,14 +45,14 @@ fn words_of(alloc: Global, line: &str) -> Result<Vec<String>, AllocError> {
 
 /// The status of a run, and the bytes in its writers.
 #[derive(Drop)]
-struct Finished<W, E> {
-    status: u8,
-    output: W,
-    errors: E,
+pub(crate) struct Finished<W, E> {
+    pub(crate) status: u8,
+    pub(crate) output: W,
+    pub(crate) errors: E,
 }
 
 /// A run over a reader and two writers.
-fn run_over<R: BufRead + Drop, W: Write, E: Write>(
+pub(crate) fn run_over<R: BufRead + Drop, W: Write, E: Write>(
     alloc: Global,
     words: Vec<String>,
     input: R,
@@ -157,16 +86,16 @@ fn ran<R: BufRead + Drop>(
 }
 
 /// A status, an output, and a line on the errors.
-type End = (u8, &'static [u8], &'static str);
+pub(crate) type End = (u8, &'static [u8], &'static str);
 
 /// A run on these words ended so.
-fn is_end(rt: &impl Abort, line: &str, end: (u8, &[u8], &[u8]), expected: End) {
+pub(crate) fn is_end(rt: &impl Abort, line: &str, end: (u8, &[u8], &[u8]), expected: End) {
     let (status, output, errors) = expected;
     assert_eq!(rt; end, (status, output, errors.as_bytes()), "{line}");
 }
 
 /// A run with this input ends so.
-fn ends_with<R: BufRead + Drop>(
+pub(crate) fn ends_with<R: BufRead + Drop>(
     rt: &impl Abort,
     alloc: Global,
     line: &str,
@@ -810,110 +739,5 @@ fn events_before_a_fault_and_the_version(rt: HostRuntime) -> Result<(), Fail> {
 fn words_that_are_no_command_and_help(rt: HostRuntime) -> Result<(), Fail> {
     all_tell(&rt, rt.alloc(), NO_COMMANDS, 23, (2, false, true))?;
     all_tell(&rt, rt.alloc(), HELP, 10, (0, true, false))?;
-    Ok(())
-}
-
-/// A run with such a room for its output ends so.
-fn ends_in(
-    rt: &impl Abort,
-    alloc: Global,
-    line: &str,
-    output: Room,
-    expected: End,
-) -> Result<(), AllocError> {
-    let input = LONG;
-    let words = words_of(alloc, line)?;
-    let ran = run_over(alloc, words, input.as_slice(), output, Vec::new(alloc));
-    let end = (
-        ran.status,
-        ran.output.bytes.as_slice(),
-        ran.errors.as_slice(),
-    );
-    is_end(rt, line, end, expected);
-    Ok(())
-}
-
-/// Words, the room for the output and whether it flushes, and how the run ends.
-static OUTPUTS_THAT_FAIL: [(&str, (usize, bool), (u8, &[u8], &str)); 8] = [
-    (
-        "",
-        (5, true),
-        (3, &[0x42, 0x43, 0xc0, 0xde, 0x21], "fault: write failed\n"),
-    ),
-    ("check", (4, true), (3, b"acce", "fault: write failed\n")),
-    ("--help", (0, true), (3, b"", "fault: write failed\n")),
-    (
-        "check",
-        (100, false),
-        (3, b"accepted\n", "fault: write failed\n"),
-    ),
-    (
-        "analyse",
-        (20, true),
-        (3, b"magic 4243c0de bits ", "fault: write failed\n"),
-    ),
-    (
-        "show",
-        (20, true),
-        (3, b"magic 4243c0de\nblock", "fault: write failed\n"),
-    ),
-    // The line is that of the failure alone.
-    (
-        "check --bytes 1",
-        (100, false),
-        (3, b"", "fault: write failed\n"),
-    ),
-    (
-        "check --bytes 1",
-        (0, true),
-        (
-            1,
-            b"",
-            "refused: TooLong at bit 8\n  tip: '--bytes N' permits a longer input, of at most 17179869180 bytes\n",
-        ),
-    ),
-];
-
-#[test]
-fn outputs_that_fail(rt: HostRuntime) -> Result<(), Fail> {
-    for (line, (room, flushes), end) in &OUTPUTS_THAT_FAIL {
-        let output = Room::new(rt.alloc(), *room, *flushes);
-        ends_in(&rt, rt.alloc(), line, output, *end)?;
-    }
-    Ok(())
-}
-
-static ALL_COMMANDS: [&str; 7] = [
-    "",
-    "check",
-    "normal",
-    "same --first 16",
-    "same --first 64",
-    "analyse",
-    "show",
-];
-
-/// A run with room for three bytes of its errors leaves a prefix of its line there.
-fn errors_fail(rt: &impl Abort, alloc: Global, line: &str) -> Result<(), AllocError> {
-    let input = LONG;
-    let words = words_of(alloc, line)?;
-    let errors = Room::new(alloc, 3, true);
-    let ran = run_over(alloc, words, input.as_slice(), Vec::new(alloc), errors);
-    let end = (
-        ran.status,
-        ran.output.as_slice(),
-        ran.errors.bytes.as_slice(),
-    );
-    is_end(rt, line, end, (1, b"", "ref"));
-    Ok(())
-}
-
-#[test]
-fn inputs_and_errors_that_fail(rt: HostRuntime) -> Result<(), Fail> {
-    let failed = (3, b"".as_slice(), "fault: read failed\n");
-    for line in &ALL_COMMANDS {
-        ends_with(&rt, rt.alloc(), line, Broken { bytes: &LONG }, failed)?;
-    }
-    errors_fail(&rt, rt.alloc(), "check --bytes 1")?;
     Ok(())
 }

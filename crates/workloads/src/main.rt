@@ -69,6 +69,15 @@ fn write(worker: &mut Worker, way: u64, least: usize) -> Result<(), Fault> {
     }
 }
 
+/// A round of the job on small modules, of which a build writes many.
+fn small(worker: &mut Worker, way: u64, least: usize) -> Result<(), Fault> {
+    if way % 2 == 0 {
+        worker.check(least, false)
+    } else {
+        worker.normal(least)
+    }
+}
+
 /// A round of all jobs by turns.
 fn mix(worker: &mut Worker, kind: u64, way: u64, least: usize) -> Result<(), Fault> {
     match kind {
@@ -101,6 +110,7 @@ fn round(worker: &mut Worker, job: &str, round: u64) -> Option<Result<(), Fault>
         "same" => worker.same(object, other),
         "pipes" => worker.pipes(object, other, FLOWS[(round % 3) as usize]),
         "text" => write(worker, way, text),
+        "small" => small(worker, way, object),
         "mix" => mix(worker, kind, way, text),
         _ => return None,
     })
