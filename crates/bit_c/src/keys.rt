@@ -5,8 +5,8 @@ ghost use Rattle.core.specs.Hash.DefaultHasher.{with_keys};
 use core::hash::keyed_hasher;
 use std::hash::{BuildHasher, DefaultHasher};
 
-/// Keys of the hashes by which an analysis finds its rows. No result depends on them: random ones keep inputs from making codes
-/// collide. The few lines of C before each call that takes them draw them.
+/// Keys of the hashes by which an analysis finds its rows. No result depends on them. The C before each call that takes them draws
+/// random ones, so that no input can make codes collide.
 #[repr(C)]
 #[derive(Clone, Copy)]
 pub struct BsKeys {
