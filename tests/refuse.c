@@ -1,6 +1,6 @@
 /* Makes allocations of the program fail that it is loaded into: REFUSE is the number of the allocation that fails, from 1 on, and
    with REFUSE_REST set all after it fail too. Each failure writes one byte to the descriptor REFUSE_TELL: `s` if a block was
-   only to shrink, so that the program can go on, and otherwise `r`. */
+   only to shrink, so that the program can go on, and otherwise `r`. With REFUSE_RANDOM the system gives no random bytes. */
 #define _GNU_SOURCE
 #include <dlfcn.h>
 #include <errno.h>
@@ -34,6 +34,13 @@ static int refuses(const char *kind) {
 #define REAL(name) \
     static __typeof__(&name) real; \
     if (!real) real = (__typeof__(&name))dlsym(RTLD_NEXT, #name)
+
+int getentropy(void *to, size_t size) {
+    REAL(getentropy);
+    if (!getenv("REFUSE_RANDOM")) return real(to, size);
+    errno = ENOSYS;
+    return -1;
+}
 
 void *malloc(size_t size) {
     REAL(malloc);
