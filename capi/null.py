@@ -14,12 +14,12 @@ static uint64_t nothing;
 #define SOME(at, len) ((at) || (len) ? (at) : (void *)&nothing)
 """
 KEYS = """/* Keys for the hashes of an analysis, the last argument of a proved call that analyses. */
-struct keys { uint64_t first, second; };
+struct bs_keys { uint64_t first; uint64_t second; };
 
 /* Draws them. If the system gives no random bytes they are zeros: no result depends on them, but an input can be slow. */
-static struct keys draw(void) {
-    struct keys keys;
-    return getrandom(&keys, sizeof keys, 0) == sizeof keys ? keys : (struct keys){0, 0};
+static struct bs_keys draw(void) {
+    struct bs_keys keys;
+    return getrandom(&keys, sizeof keys, 0) == sizeof keys ? keys : (struct bs_keys){0, 0};
 }
 """
 KEYED = ["bs_analyse", "bs_fed_analyse", "bs_fed_report", "bs_hold_report", "bs_report"]
@@ -47,7 +47,7 @@ def passed(parameter, all_of_them):
 
 def proved(result, name, told):
     """The declaration of a proved call."""
-    return f"{result} proved_{name}({told}{', const struct keys *keys' if name in KEYED else ''})"
+    return f"{result} proved_{name}({told}{', const struct bs_keys *keys' if name in KEYED else ''})"
 
 
 def main():
@@ -59,7 +59,7 @@ def main():
             given = [passed(it, parameters) for it in parameters]
             before = LEFT_OUT if "&named" in given else BYTES if "struct bs_bytes *name" in parameters else ""
             if name in KEYED:
-                before += "    const struct keys keys = draw();\n"
+                before += "    const struct bs_keys keys = draw();\n"
                 given.append("&keys")
             if before or any(it.startswith("SOME") for it in given):
                 names.write(f"{name} proved_{name}\n")
