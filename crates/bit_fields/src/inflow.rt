@@ -1,5 +1,15 @@
+ghost use Rattle.std.specs.Prelude.{ℕ, ◌≡◌, ◌+◌, ◌*◌, ◌-◌, ◌<◌, ◌≤◌, ◌^◌, ◌⊎◌, length, true, false, take, drop, [], OnErr, OnOk, IfOk, IfSome, IfNone, Err};
+ghost use Rattle.bit_grammar.specs.Bits.{number};
+ghost use Rattle.bit_fields.specs.Inflow.{IsFlow, IsKnown, KeepsFlow, LooksOn, LostFlow, Shows, Advances, TakesBits, Lacks, Drops, Asks, TakesLate, Waits, SkipsSome, Shortens, Copies, HandsOver, IsSettled, Settles, Drains, stop_of, taken_of, place_of, carried_of, there_of, budget_of, to_ask};
+ghost use Rattle.bit_fields.specs.PlacedView.{placed};
+ghost use Rattle.std.specs.Borrow.{sem};
+ghost use Rattle.bit_fields.specs.Devices.{Looked, Fails, Spends, known_bytes};
+ghost use Rattle.std.specs.Io.BufRead.{Rests};
+
 use crate::placed::PlacedBits;
 use crate::source::{Source, SourceFailed};
+use crate::word::{eight_of, first_eight};
+use std::marker::Model;
 
 /// Why bits are missing.
 #[derive(Clone, Copy, Debug, PartialEq, Eq)]
@@ -12,178 +22,318 @@ pub enum Missing {
     Read,
 }
 
-impl From<SourceFailed> for Missing {
-    fn from(_failed: SourceFailed) -> Missing {
-        Missing::Read
-    }
-}
-
-/// How many bytes the carry has room for.
+/// How many bytes the carry has room for. A load of eight bytes may begin at each of them.
 const CARRY: usize = 64;
 
-/// A source and a place in what it has buffered, up to a limit on bytes.
+/// A source and a place in the bytes of its stream that are there: those that were taken into the carry, and those that the source
+/// lends behind them. There is a limit on bytes.
 ///
-/// Bits are read where the source lends them, and bytes are taken from it once the next field is not there. The carry then has what
-/// is left of them, and copies of the bytes that come next; or what a source gave that lends none.
+/// Bits are read in the carry, and behind it where the source lends them. Bytes are taken once the next field is not there.
 #[derive(Drop)]
 pub struct Inflow<S: Source> {
     source: S,
-    /// How many bytes of the stream the source lends.
-    lent: usize,
-    /// How many bytes of the carry were taken from the source. If there are none, bits are read where the source lends them.
-    held: usize,
-    /// How many bits are read of those in the carry, or of those that are lent.
-    at: u64,
-    /// How many bytes of the input come before these.
+    /// How many bytes of the input come before those of the carry.
     before: u64,
-    /// Bytes that were taken, and copies of the first ones that are lent.
-    carry: [u8; CARRY],
     /// How many bytes the carry has.
-    filled: usize,
+    held: usize,
+    /// How many bytes behind those the source lends.
+    lent: usize,
+    /// How many bits are read of all these.
+    at: u64,
+    carry: [u8; CARRY + 8],
+    /// How many bytes behind the stream were taken.
+    over: u64,
     end: u64,
     limit: u64,
     ended: bool,
 }
 
+impl<S: Source> Model for Inflow<S> {
+    ghost use Rattle.std.specs.Prelude.{take, length, ◌≡◌};
+    ghost use Rattle.bit_fields.specs.Inflow.{Flow, IsFlow, lending};
+
+    ghost Value = { Flow };
+
+    ghost view = { λ f. record {
+      carry = take f.held f.carry;
+      incoming = lending f.lent (S.incoming f.source);
+      lent = f.lent;
+      at = f.at;
+      before = f.before;
+      over = f.over;
+      end = f.end;
+      limit = f.limit;
+      ended = f.ended;
+    } };
+
+    ghost invariant = { λ f. IsFlow (record {
+      carry = take f.held f.carry;
+      incoming = lending f.lent (S.incoming f.source);
+      lent = f.lent;
+      at = f.at;
+      before = f.before;
+      over = f.over;
+      end = f.end;
+      limit = f.limit;
+      ended = f.ended;
+    }) × (length (take f.held f.carry) ≡ f.held) };
+}
+
+/// Copies bytes that are lent, at most `most`, into a carry behind the `held` bytes that it has, and returns how many.
+fn copy_lent<S: Source>(
+    source: &mut S,
+    most: usize,
+    carry: &mut [u8; CARRY + 8],
+    held: usize,
+) -> usize
+    requires { held ≤ 64 }
+    ensures looked { Looked (S.incoming source.old) (S.incoming source.new) }
+    ensures same { most ≡ 0 → S.incoming source.new ≡ S.incoming source.old }
+    ensures most { result ≤ most }
+    ensures room { held + result ≤ 64 }
+    ensures copies { Copies (S.incoming source.old).to_come held result carry.old carry.new }
+{
+    if most == 0 {
+        return 0;
+    }
+    let bytes = source.lend();
+    let count = bytes.len().min(most).min(CARRY - held);
+    carry[held..held + count].copy_from_slice(&bytes[..count]);
+    count
+}
+
 impl<S: Source> Inflow<S> {
+    ghost use Rattle.bit_fields.specs.contracts.inflow.Inflow.{the_row};
+
     /// All that a source has, up to a limit on bytes.
-    pub fn new(source: S, limit: u64) -> Inflow<S> {
+    pub fn new(source: S, limit: u64) -> Inflow<S>
+        requires { limit < 2 ^ 35 }
+        ensures { result ≡ record {
+          carry = [];
+          incoming = S.incoming source;
+          lent = 0;
+          at = 0;
+          before = 0;
+          over = 0;
+          end = u64.MAX;
+          limit = limit;
+          ended = false;
+        } }
+    {
         Inflow {
             source,
-            lent: 0,
-            held: 0,
-            at: 0,
             before: 0,
-            carry: [0; CARRY],
-            filled: 0,
+            held: 0,
+            lent: 0,
+            at: 0,
+            carry: [0; CARRY + 8],
+            over: 0,
             end: u64::MAX,
             limit,
             ended: false,
         }
     }
 
-    /// Returns the source, without the bytes that are read.
-    pub fn into_source(self) -> S {
+    /// States the invariant.
+    #[inline(always)]
+    pub fn is_flow(&self)
+        ensures flow { IsFlow self.now }
+        ensures lent { IsKnown self.now
+            → self.now.lent ≤ length (known_bytes self.now.incoming.to_come) }
+    {
+        let _at = self.at;
+    }
+
+    /// Returns the source in its present state.
+    pub fn release(self) -> S
+        ensures { Spends self.incoming 0 (S.incoming result) 0 }
+    {
+        self.source
+    }
+
+    /// Returns the source without the bytes of which all bits are read, unless it fails.
+    pub fn into_source(self) -> S
+        ensures { HandsOver self (S.incoming result)
+            ⊎ Fails self.incoming (budget_of self) (S.incoming result) 0 }
+    {
         let mut inflow = self;
-        match inflow.settle() {
-            Ok(()) | Err(_) => inflow.source,
+        inflow.settle();
+        inflow.source
+    }
+
+    /// Takes the bytes of which all bits are read, unless the source fails.
+    fn settle(&mut self)
+        ensures { Settles self.old self.new }
+    {
+        while self.lags() {
+            match self.pass_read() {
+                Ok(()) => {}
+                Err(SourceFailed) => return,
+            }
         }
     }
 
-    /// The bit at which the unread bits begin.
+    /// Whether there are bytes that are lent and of which all bits are read.
     #[inline(always)]
-    pub fn position(&self) -> u64 {
-        8 * self.before + self.at
-    }
-
-    /// The bits that are there, possibly none. The source is asked for nothing.
-    #[inline(always)]
-    pub fn bits(&mut self) -> PlacedBits<'_> {
-        if self.held > 0 || 8 * self.lent as u64 <= self.at {
-            return self.carried();
-        }
-        let (start, at) = (8 * self.before, self.at);
-        let bytes = self.source.lend();
-        PlacedBits::at_most(&bytes[..self.lent.min(bytes.len())], start, at)
-    }
-
-    /// The bits in the carry.
-    #[inline(never)]
-    fn carried(&self) -> PlacedBits<'_> {
-        let room = self.stop().saturating_sub(self.before) as usize;
-        let bytes = &self.carry[..self.filled.min(room)];
-        PlacedBits::at_most(bytes, 8 * self.before, self.at)
-    }
-
-    /// Takes the number of the first n bits, if they are there.
-    #[inline(always)]
-    pub fn take(&mut self, n: u32) -> Option<u64> {
-        let value = self.bits().part(n)?;
-        self.advance(u64::from(n));
-        Some(value)
-    }
-
-    /// Moves on by bits that are there.
-    #[inline(always)]
-    pub fn advance(&mut self, bits: u64) {
-        self.at += bits;
-        if self.held > 0 {
-            self.leave_carry();
-        }
-    }
-
-    /// Goes on where the source lends bits, once those of the carry are read that were taken.
-    #[inline(never)]
-    fn leave_carry(&mut self) {
-        let held = 8 * self.held as u64;
-        if self.at >= held {
-            self.at -= held;
-            self.before += self.held as u64;
-            self.held = 0;
-            self.filled = 0;
-        }
+    fn lags(&self) -> bool
+        ensures yes { result ≡ true → 8 * length self.now.carry + 8 ≤ self.now.at }
+        ensures no { result ≡ false → self.now.at < 8 * length self.now.carry + 8 }
+        ensures settled { result ≡ false → IsSettled self.now }
+    {
+        self.at >= 8 * self.held as u64 + 8
     }
 
     /// At which byte the stream ends, or the limit.
-    fn stop(&self) -> u64 {
+    #[inline(always)]
+    fn stop(&self) -> u64
+        ensures { result ≡ stop_of self.now }
+    {
         self.end.min(self.limit)
     }
 
     /// How many bytes were taken from the source.
-    fn taken(&self) -> u64 {
-        self.before + self.held as u64
+    #[inline(always)]
+    fn taken(&self) -> u64
+        ensures { result ≡ taken_of self.now }
+    {
+        self.before + self.held as u64 + self.over
     }
 
-    /// Takes bytes that are lent.
-    fn pass(&mut self, count: usize) -> Result<(), Missing> {
-        let mut left = count;
-        while left > 0 {
-            let some = self.source.pass(left)?;
-            if some == 0 {
-                self.ended = true;
-                return Err(Missing::End);
-            }
-            left -= some.min(left);
-        }
-        self.lent -= count;
-        Ok(())
+    /// How many bits were taken or are lent.
+    #[inline(always)]
+    pub fn there(&self) -> u64
+        ensures { result ≡ there_of self.now }
+    {
+        8 * (self.held + self.lent) as u64 - self.at
     }
 
-    /// Takes the bytes of which all bits are read.
-    fn settle(&mut self) -> Result<(), Missing> {
-        let whole = (self.at / 8) as usize;
-        if self.held > 0 {
-            for place in whole..self.held {
-                self.carry[place - whole] = self.carry[place];
-            }
-            self.held -= whole;
+    /// The bits that are there, possibly none. The source is asked for nothing.
+    #[inline(always)]
+    pub fn bits(&mut self) -> PlacedBits<'_>
+        ensures* shows { sem 𝓛 (Rests (the_row S.row S.Source) self.entry
+            (λ new. Shows self.old (placed result) new)) }
+    {
+        if self.is_in_place() {
+            self.in_place()
         } else {
-            self.pass(whole.min(self.lent))?;
+            self.joined()
         }
-        self.before += whole as u64;
-        self.at %= 8;
-        self.filled = self.held;
-        Ok(())
     }
 
-    /// Copies bytes that are lent behind those in the carry, and returns how many.
-    fn copy_lent(&mut self) -> usize {
+    /// Whether the bits of the carry are read, and the source lends some that are not.
+    #[inline(always)]
+    fn is_in_place(&self) -> bool
+        ensures { result ≡ true → (8 * length self.now.carry ≤ self.now.at)
+            × (self.now.at < 8 * (length self.now.carry + self.now.lent)) }
+    {
+        let held = 8 * self.held as u64;
+        held <= self.at && self.at < held + 8 * self.lent as u64
+    }
+
+    /// The bits that the source lends.
+    #[inline(always)]
+    fn in_place(&mut self) -> PlacedBits<'_>
+        requires behind { 8 * length self.old.carry ≤ self.old.at }
+        requires some { self.old.at < 8 * (length self.old.carry + self.old.lent) }
+        ensures* shows { sem 𝓛 (Rests (the_row S.row S.Source) self.entry
+            (λ new. Shows self.old (placed result) new)) }
+    {
+        let held = 8 * self.held as u64;
+        let (start, at, lent) = (8 * self.before + held, self.at - held, self.lent);
         let bytes = self.source.lend();
-        let count = bytes.len().min(self.lent).min(CARRY - self.held);
-        for place in 0..count {
-            self.carry[self.held + place] = bytes[place];
-        }
-        self.filled = self.held + count;
-        count
+        PlacedBits::at_most(&bytes[..lent.min(bytes.len())], start, at)
     }
 
-    /// Asks the source for more bytes, since those that are there do not suffice.
-    fn ask(&mut self) -> Result<(), Missing> {
-        self.settle()?;
+    /// The bits in the carry, and some behind them that are lent.
+    #[inline(never)]
+    fn joined(&mut self) -> PlacedBits<'_>
+        ensures* shows { sem 𝓛 (Rests (the_row S.row S.Source) self.entry
+            (λ new. Shows self.old (placed result) new)) }
+    {
+        let count = copy_lent(&mut self.source, self.lent, &mut self.carry, self.held);
+        PlacedBits::at_most(&self.carry[..self.held + count], 8 * self.before, self.at)
+    }
+
+    /// The number of the first n bits, if they are there.
+    #[inline(always)]
+    pub fn front(&mut self, n: u32) -> Option<u64>
+        requires { n ≤ 32 }
+        ensures some { IfSome result (λ value. ShowsFront n value self.old self.new) }
+        ensures below { IfSome result (λ value. value < 2 ^ n) }
+        ensures none { IfNone result (Lacks n self.old self.new) }
+    {
+        if self.at + u64::from(n) <= 8 * self.held as u64 {
+            return Some(self.carried(n));
+        }
+        self.lent_front(n)
+    }
+
+    /// The number of the first n bits, which are in the carry.
+    #[inline(always)]
+    fn carried(&self, n: u32) -> u64
+        requires few { n ≤ 32 }
+        requires there { n ≤ carried_of self.now }
+        ensures { result ≡ number (take n (flow_bits self.now)) }
+    {
+        let rest = &self.carry[(self.at >> 3) as usize..];
+        eight_of(rest) >> (self.at & 7) & ((1 << n) - 1)
+    }
+
+    /// The number of the first n bits, if they are there, and not all in the carry.
+    #[inline(never)]
+    fn lent_front(&mut self, n: u32) -> Option<u64>
+        requires { n ≤ 32 }
+        ensures some { IfSome result (λ value. ShowsFront n value self.old self.new) }
+        ensures below { IfSome result (λ value. value < 2 ^ n) }
+        ensures none { IfNone result (Lacks n self.old self.new) }
+    {
+        if self.lent == 0 {
+            return None;
+        }
+        self.bits().part(n)
+    }
+
+    /// Takes the number of the first n bits, if they are there.
+    #[inline(always)]
+    pub fn take(&mut self, n: u32) -> Option<u64>
+        requires { n ≤ 32 }
+        ensures some { IfSome result (λ value. TakesBits n value self.old self.new) }
+        ensures below { IfSome result (λ value. value < 2 ^ n) }
+        ensures none { IfNone result (Lacks n self.old self.new) }
+    {
+        match self.front(n) {
+            Some(value) => {
+                self.at += u64::from(n);
+                Some(value)
+            }
+            None => None,
+        }
+    }
+
+    /// Moves on by bits that are there.
+    #[inline(always)]
+    pub fn advance(&mut self, bits: u64)
+        requires { bits ≤ there_of self.old }
+        ensures { Advances bits self.old self.new }
+    {
+        self.at += bits;
+    }
+
+    /// Asks the source for more bytes, since those that are there do not suffice: once, or less if some that it lends are not taken.
+    fn ask(&mut self) -> Result<(), Missing>
+        requires { carried_of self.old < 32 }
+        ensures asks { Asks self.old self.new result }
+        ensures fewer { OnOk result (to_ask self.new < to_ask self.old) }
+    {
+        if self.lags() {
+            return match self.pass_read() {
+                Ok(()) => Ok(()),
+                Err(SourceFailed) => Err(Missing::Read),
+            };
+        }
+        self.drop_read();
         if self.lent > 0 {
-            let count = self.copy_lent();
-            self.pass(count)?;
-            self.held += count;
+            return self.pull();
         }
         if self.ended {
             return Err(Missing::End);
@@ -191,38 +341,107 @@ impl<S: Source> Inflow<S> {
         if self.taken() >= self.stop() {
             return Err(self.past());
         }
-        let room = (self.stop() - self.taken()) as usize;
-        if self.source.look()? {
-            self.lent = self.source.lend().len().min(room);
+        self.more()
+    }
+
+    /// Takes bytes that are lent and of which all bits are read. Those of the carry are dropped.
+    fn pass_read(&mut self) -> Result<(), SourceFailed>
+        requires { 8 * length self.old.carry + 8 ≤ self.old.at }
+        ensures ok { OnOk result (KeepsFlow self.old self.new × (to_ask self.new < to_ask self.old)) }
+        ensures err { OnErr result (LostFlow self.old self.new) }
+    {
+        let whole = (self.at / 8) as usize - self.held;
+        let mut count = self.source.pass(whole)?;
+        if count == 0 {
+            count = whole; // it has lent them
         }
-        if self.lent == 0 {
-            return self.pull(room);
-        }
-        if self.held > 0 {
-            self.copy_lent();
-        }
+        let read = (self.held + count) as u64;
+        self.before += read;
+        self.held = 0;
+        self.lent -= count;
+        self.at -= 8 * read;
         Ok(())
     }
 
-    /// Pulls bytes into the carry, at most `room`.
-    fn pull(&mut self, room: usize) -> Result<(), Missing> {
-        let most = (self.held + room).min(CARRY);
-        let count = self.source.pull(&mut self.carry[self.held..most])?;
+    /// Drops the bytes of the carry of which all bits are read.
+    #[inline(always)]
+    fn drop_read(&mut self)
+        requires few { carried_of self.old < 32 }
+        requires low { self.old.at < 8 * length self.old.carry + 8 }
+        ensures { Drops self.old self.new }
+    {
+        let whole = (self.at / 8) as usize;
+        let rest = first_eight(&self.carry[whole..]);
+        self.carry[..8].copy_from_slice(&rest);
+        self.before += whole as u64;
+        self.held -= whole;
+        self.at -= 8 * whole as u64;
+    }
+
+    /// Looks for bytes that are lent, and pulls some if the carry has room for all of them.
+    fn more(&mut self) -> Result<(), Missing>
+        requires few { carried_of self.old < 32 }
+        requires low { self.old.at < 8 }
+        requires none { self.old.lent ≡ 0 }
+        requires some { taken_of self.old < stop_of self.old }
+        requires going { self.old.ended ≡ false }
+        ensures asks { Asks self.old self.new result }
+        ensures fewer { OnOk result (to_ask self.new < to_ask self.old) }
+    {
+        match self.source.look() {
+            Ok(false) => return self.pull(),
+            Ok(true) => {}
+            Err(SourceFailed) => return Err(Missing::Read),
+        }
+        let room = self.end.min(self.limit) - (self.before + self.held as u64);
+        let lent = self.source.lend().len().min(room as usize);
+        if lent < CARRY {
+            return self.pull();
+        }
+        self.lent = lent;
+        Ok(())
+    }
+
+    /// Pulls bytes of the stream into the carry.
+    fn pull(&mut self) -> Result<(), Missing>
+        requires few { carried_of self.old < 32 }
+        requires low { self.old.at < 8 }
+        requires some { taken_of self.old < stop_of self.old }
+        requires going { self.old.ended ≡ false }
+        ensures asks { Asks self.old self.new result }
+        ensures fewer { OnOk result (to_ask self.new < to_ask self.old) }
+    {
+        let room = self.end.min(self.limit) - (self.before + self.held as u64);
+        let most = CARRY.min(self.held + room as usize);
+        let mut count = match self.source.pull(&mut self.carry[self.held..most]) {
+            Ok(count) => count,
+            Err(SourceFailed) => return Err(Missing::Read),
+        };
         if count == 0 {
-            self.ended = true;
-            return Err(Missing::End);
+            if self.lent == 0 {
+                self.ended = true; // and is not asked again
+                return Err(Missing::End);
+            }
+            count = 1; // it has lent this byte
         }
         self.held += count;
-        self.filled = self.held;
+        self.lent = self.lent.saturating_sub(count);
         Ok(())
     }
 
     /// At the limit on bytes, or at the end that a wrapper named: whether the input goes on past the limit.
-    fn past(&mut self) -> Missing {
+    fn past(&mut self) -> Missing
+        requires few { carried_of self.old < 32 }
+        requires low { self.old.at < 8 }
+        requires none { self.old.lent ≡ 0 }
+        requires stop { stop_of self.old ≤ taken_of self.old }
+        requires going { self.old.ended ≡ false }
+        ensures { Asks self.old self.new (Err result) }
+    {
         if self.end <= self.limit {
             return Missing::End;
         }
-        if self.taken() > self.limit {
+        if self.over > 0 {
             return Missing::Limit;
         }
         match self.source.pull(&mut [0]) {
@@ -231,80 +450,100 @@ impl<S: Source> Inflow<S> {
                 Missing::End
             }
             Ok(_) => {
-                self.held += 1;
-                self.filled = self.held;
+                self.over = 1;
                 Missing::Limit
             }
             Err(SourceFailed) => Missing::Read,
         }
     }
 
-    /// Makes sure that n bits are there, at most 32.
+    /// Takes the number of the first n bits, and asks the source while they are not there.
     #[cold]
     #[inline(never)]
-    pub fn fill(&mut self, n: u32) -> Result<(), Missing> {
-        while !self.bits().has(u64::from(n)) {
+    pub fn take_late(&mut self, n: u32) -> Result<u64, Missing>
+        requires { n ≤ 32 }
+        ensures takes { TakesLate n self.old self.new result }
+        ensures below { IfOk result (λ value. value < 2 ^ n) }
+    {
+        loop {
+            match self.take(n) {
+                Some(value) => return Ok(value),
+                None => self.ask()?,
+            }
+        }
+    }
+
+    /// Waits until a bit is there, and returns how many are.
+    pub fn wait(&mut self) -> Result<u64, Missing>
+        ensures { Waits self.old self.new result }
+    {
+        loop {
+            let count = self.there();
+            if count > 0 {
+                return Ok(count);
+            }
             self.ask()?;
         }
-        Ok(())
     }
 
     /// Skips bits of the stream, at least one and at most `most`, and returns how many.
-    pub fn skip(&mut self, most: u64) -> Result<u64, Missing> {
-        self.fill(1)?;
-        let count = self.bits().len().min(most);
+    pub fn skip(&mut self, most: u64) -> Result<u64, Missing>
+        requires { 0 < most }
+        ensures skips { SkipsSome most self.old self.new result }
+    {
+        let count = self.wait()?.min(most);
         self.advance(count);
         Ok(count)
     }
 
-    /// Stops at a bit: nothing is read any more.
-    pub fn stop_at(&mut self, bit: u64) {
-        match self.settle() {
-            Ok(()) | Err(_) => {}
-        }
-        self.lent = 0;
-        self.held = 0;
-        self.filled = 0;
-        self.before = bit / 8;
-        self.at = bit % 8;
-        self.ended = true;
-    }
-
-    /// Ends the stream at a byte.
-    pub fn shorten(&mut self, end: u64) {
+    /// Ends the stream at a byte, no earlier than its next bit.
+    pub fn shorten(&mut self, end: u64)
+        requires most { end < 2 ^ 60 }
+        requires least { place_of self.old ≤ 8 * end }
+        ensures shortens { Shortens end self.old self.new }
+        ensures limit { self.old.limit < 2 ^ 35 }
+    {
+        let room = (end.min(self.limit) - self.before) as usize;
+        let held = self.held.min(room);
+        let lent = self.lent.min(room - held);
+        self.over += (self.held - held) as u64;
+        self.held = held;
+        self.lent = lent;
         self.end = end;
-        let left = self.stop().saturating_sub(self.taken());
-        self.lent = (self.lent as u64).min(left) as usize;
-        self.filled = self.filled.min(self.held + self.lent);
     }
 
-    /// Takes some of the bytes that the source still has.
-    fn drain_some(&mut self) -> Result<(), Missing> {
-        if self.taken() > self.limit {
-            return Err(Missing::Limit);
-        }
-        let count = self.source.pass((self.limit + 1 - self.taken()) as usize)?;
-        self.ended = count == 0;
-        self.before += count as u64;
-        Ok(())
-    }
-
-    /// Takes all bytes that the source still has.
-    pub fn drain(&mut self) -> Result<(), Missing> {
-        self.settle()?;
+    /// Takes all bytes that the source still has. Nothing is read any more.
+    pub fn drain(&mut self) -> Result<(), Missing>
+        ensures { Drains self.old self.new result }
+    {
+        let mut taken = self.before + self.held as u64 + self.over;
+        self.lent = 0;
+        self.at = 0;
         while !self.ended {
-            self.drain_some()?;
+            if taken > self.limit {
+                return Err(Missing::Limit);
+            }
+            match self.source.pass((self.limit + 1 - taken) as usize) {
+                Ok(0) => self.ended = true,
+                Ok(count) => taken += count as u64,
+                Err(SourceFailed) => return Err(Missing::Read), // nothing is asked after a failure
+            }
         }
         Ok(())
     }
 
     /// The byte at which the stream ends, unless its source ends before.
-    pub fn end(&self) -> u64 {
+    pub fn end(&self) -> u64
+        ensures { result ≡ self.now.end }
+    {
         self.end
     }
 
     /// The limit on bytes.
-    pub fn limit(&self) -> u64 {
+    pub fn limit(&self) -> u64
+        ensures limit { result ≡ self.now.limit }
+        ensures most { result < 2 ^ 35 }
+    {
         self.limit
     }
 }

@@ -4,7 +4,7 @@ ghost use Rattle.std.specs.IoError.{error_kind};
 ghost use Rattle.std.specs.Io.{ReadsAtMost};
 ghost use Rattle.std.specs.Io.BufRead.{Rests};
 ghost use Rattle.std.specs.Io.KnownBytes.{ReadConsumes};
-ghost use Rattle.bit_fields.specs.Devices.{Begins, GaveNone, IsFresh, IsWorn, Looked, PullsWord};
+ghost use Rattle.bit_fields.specs.Devices.{Begins, IsFresh, IsWorn, Looked};
 ghost use Rattle.bit_fields.specs.Readers.{FailedOf};
 
 use std::io;

@@ -5,7 +5,6 @@ ghost use Rattle.std.specs.Int.{w64, bit_not};
 ghost use Rattle.bit_grammar.specs.Bits.{bits_of, bits_of_bytes};
 ghost use Rattle.bit_grammar.specs.Fields.{fixed, vbr};
 ghost use Rattle.bit_fields.specs.Buffered.{Reads, beyond};
-ghost use Rattle.bit_fields.specs.BufferedParts.{bits_of_parts, AreParts};
 ghost use Rattle.bit_fields.specs.Placed.{HasNumbers, Shows, bits_at};
 ghost use Rattle.bit_fields.specs.PlacedView.{loaded, placed};
 
@@ -99,7 +98,10 @@ impl<'a> PlacedBits<'a> {
         ensures { 0 < result.1 → Reads (vbr n) (placed self.entry) result.0
             (beyond (placed self.entry) result.1) }
     {
-        self.chunk_by_chunk(ChunkWidth { bits: n })
+        match self.chunk_by_chunk(ChunkWidth { bits: n }) {
+            Some((value, after)) => (value, after.position() - self.position()),
+            None => (0, 0),
+        }
     }
 
     /// The length of a number in chunks of n bits that is long, if it is there.
@@ -198,17 +200,24 @@ impl<'a> PlacedBits<'a> {
 
     /// The length of this many numbers in chunks of any width, if they are there and so many bits more.
     #[inline(never)]
-    pub fn all_of(self, chunks: ChunkTops, count: u64, more: u64) -> Option<u64> {
-        let (some, behind) = self.some_of(chunks, count);
-        if some < count || !behind.has(more) {
+    pub fn all_of(self, chunks: ChunkTops, count: u64, more: u64) -> Option<u64>
+        ensures has { IfSome result (λ len. HasNumbers chunks.bits count (placed self.entry) len) }
+        ensures more { IfSome result (λ len. len + more ≤ length (placed self.entry).bits) }
+    {
+        let (some, after) = self.some_of(chunks, count);
+        if some < count || !after.has(more) {
             return None;
         }
-        Some(behind.at - self.at)
+        Some(after.position() - self.position())
     }
 
     /// Passes over numbers in chunks of any width, as long as 64 bits are there, at most `most`. Returns how many, and the bits behind.
     #[inline(always)]
-    pub fn some_of(self, chunks: ChunkTops, most: u64) -> (u64, PlacedBits<'a>) {
+    pub fn some_of(self, chunks: ChunkTops, most: u64) -> (u64, PlacedBits<'a>)
+        ensures most { result.0 ≤ most }
+        ensures has { (len : ℕ) × HasNumbers chunks.bits result.0 (placed self.entry) len
+            × (placed result.1 ≡ beyond (placed self.entry) len) }
+    {
         let mut bits = self;
         let mut left = most;
         while left > 0 && bits.has(64) {

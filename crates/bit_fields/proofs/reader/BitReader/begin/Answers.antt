@@ -1,8 +1,5 @@
-use Rattle.std.proofs.Common.{ap}
 use Rattle.std.proofs.lemmas.Result.{err_from_is_err_and}
 use Rattle.bit_fields.specs.Opening.{wrapper_told}
-use Rattle.bit_fields.specs.Reader.{Reader}
-use Rattle.bit_fields.proofs.AtTheEnd.{reaches}
 use Rattle.bit_fields.proofs.Starting.{magic_took, magic_missed, wrapper_missed, headed, gap_missed, reached, inner_declines, stream_begins, Headed, Reached}
 use Rattle.bit_fields.proofs.reader.BitReader.begin.Goals as goal
 
@@ -23,7 +20,7 @@ pub returns-in_err-gap-clause-opens : goal.returns-in_err-gap-clause-opens
 returns-in_err-gap-clause-opens g c =
     let p = err_from_is_err_and c.from_residual-in_err-gap.result c.from_residual-in_err-gap.ensures.1 in
     let t : Headed c.args.self.now (wrapper_told c.in_ok-wrapper.wrapper) c.wrapper.new.self = headed c.args.self.now c.in_ok-first.first c.fixed.new.self (wrapper_told c.in_ok-wrapper.wrapper) c.wrapper.new.self c.requires.position c.in_ok-first.ensures.takes c.if-first-ne-WRAPPER_MAGIC.false c.in_ok-wrapper.ensures.takes in
-    rw (p.1, p.2) (gap_missed c.args.self.now (wrapper_told c.in_ok-wrapper.wrapper) c.wrapper.new.self c.self.inside.position c.in_err-gap.field-0.0 c.gap.new.self c.requires.end t c.in_ok-wrapper.ensures.place c.in_ok-wrapper.ensures.fits.0 (ap (λ (r : Reader). r.position) c.self.view_is) (reaches c.self.inside.live c.self.inside.position c.self.inside.inflow c.wrapper.new.self c.self.view_is c.self.invariant) c.in_err-gap.ensures.takes c.in_err-gap.ensures.memory)
+    rw (p.1, p.2) (gap_missed c.args.self.now (wrapper_told c.in_ok-wrapper.wrapper) c.wrapper.new.self c.position-start.result c.in_err-gap.field-0.0 c.gap.new.self c.requires.end t c.in_ok-wrapper.ensures.place c.in_ok-wrapper.ensures.fits.0 c.position-start.ensures.position c.position-start.ensures.reach c.in_err-gap.ensures.takes c.in_err-gap.ensures.memory)
 
 pub returns-in_err-magic-clause-opens : goal.returns-in_err-magic-clause-opens
 returns-in_err-magic-clause-opens g c =

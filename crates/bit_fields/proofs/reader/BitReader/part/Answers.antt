@@ -1,28 +1,19 @@
-use Rattle.std.proofs.Common.{◌≡◌, true, sym, ◌∙◌, arith, refl}
-use Rattle.std.proofs.lemmas.Bool.{false≢true}
-use Rattle.bit_fields.proofs.InflowLaws.{Keeps-refl}
-use Rattle.bit_fields.proofs.Parts.{fills_exact, Filled, live_from, took_as, missed_as}
+use Rattle.std.proofs.Common.{◌≡◌, true, arith, ap, ◌∙◌, Result, subst, sym}
+use Rattle.bit_grammar.specs.Grammar.{gives}
+use Rattle.bit_fields.specs.Inside.{part_of}
+use Rattle.bit_fields.specs.Reader.{Reader}
+use Rattle.bit_fields.proofs.BufferedReads.{nothing_then}
+use Rattle.bit_fields.proofs.Parts.{took_as, looked_as}
 use Rattle.bit_fields.proofs.reader.BitReader.part.Goals as goal
-use Rattle.bit_fields.proofs.reader.BitReader.part.Goals.{then-bits_held-n+else-not-self+in-Ok, else-bits_held-n}
 
-pub invariant_of-self : goal.invariant_of-self
-invariant_of-self g c = record {
-  exact = λ e. fills_exact c.args.n c.self.inside.position c.self.inside.inflow c.fill.new.self c.in-Err.missing c.in-Err.ensures (c.self.invariant.exact c.if-not-self.false);
-  empty = λ e. absurd (false≢true (sym e ∙ c.if-not-self.false));
-}
+pub overflow_add-self : goal.overflow_add-self
+overflow_add-self g c = omega (arith, c.from.ensures, c.in-Some.ensures.some.small, c.in-Some.ensures.some.place, c.self.invariant c.if-not-self.false)
 
-pub returns-in-Err-clause-takes : goal.returns-in-Err-clause-takes
-returns-in-Err-clause-takes g c = missed_as c.args.n c.args.first c.self.inside.position c.self.inside.live c.self.inside.inflow c.fill.new.self c.in-Err.missing c.args.self.now c.miss.new.self c.miss.result c.if-not-self.false c.self.view_is c.in-Err.ensures c.miss.ensures.fault c.miss.ensures.stopped
+pub invariant_of-self-in-Some : goal.invariant_of-self-in-Some
+invariant_of-self-in-Some g c = λ live. omega (arith, c.from.ensures, c.in-Some.ensures.some.place, c.self.invariant live)
 
-pub returns-clause-takes : goal.returns-clause-takes
-returns-clause-takes g c =
-    let filled : Filled c.args.n c.self.inside.position c.self.inside.inflow c.if-bits_held-n.self-inside.live c.if-bits_held-n.self-inside.position c.if-bits_held-n.self-inside.inflow =
-    elim c.if-bits_held-n.branch [
-      | then-bits_held-n+else-not-self+in-Ok w ↦ rw w.self-inside-is (record { live = w.if-not-self.false; position = refl; keeps = w.in-Ok.ensures.0; there = w.in-Ok.ensures.1 })
-      | else-bits_held-n w ↦ rw w.self-inside-is (record { live = live_from c.self.inside.live c.self.inside.inflow.window c.args.n c.self.invariant.empty c.requires.some (omega arith); position = refl; keeps = Keeps-refl c.self.inside.inflow; there = omega arith })
-    ] in
-    let was : c.self.inside.live ≡ true = elim c.if-bits_held-n.branch [
-      | then-bits_held-n+else-not-self+in-Ok w ↦ w.if-not-self.false
-      | else-bits_held-n w ↦ live_from c.self.inside.live c.self.inside.inflow.window c.args.n c.self.invariant.empty c.requires.some (omega arith)
-    ] in
-    took_as c.args.n c.args.first c.self.inside.position c.if-bits_held-n.self-inside.position c.take-value.result _ c.self.inside.live c.if-bits_held-n.self-inside.live c.self.inside.inflow c.if-bits_held-n.self-inside.inflow c.take-value.new.self c.args.self.now was c.self.view_is filled c.take-value.ensures.value (omega arith) c.take-value.ensures.rest
+pub returns-in-Some-clause-takes : goal.returns-in-Some-clause-takes
+returns-in-Some-clause-takes g c = took_as c.args.n c.args.first c.self.inside.position c.in-Some.value _ c.self.inside.live c.self.inside.inflow c.take.new.self c.args.self.now c.if-not-self.false c.self.view_is c.in-Some.ensures.some (omega (arith, c.from.ensures))
+
+pub returns-in-None-clause-takes : goal.returns-in-None-clause-takes
+returns-in-None-clause-takes g c = nothing_then (part_of c.args.first c.args.n) c.args.self.now _ c.late_part.result c.late_part.new.self (looked_as c.self.inside.position c.self.inside.live c.self.inside.inflow c.take.new.self c.args.self.now c.if-not-self.false c.self.view_is c.in-None.ensures.none.looks) c.late_part.ensures.takes

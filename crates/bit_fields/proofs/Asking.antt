@@ -1,0 +1,457 @@
+-- A source that is asked for bytes.
+use Rattle.std.proofs.Common.{◌≡◌, ℕ, zero, suc, ◌+◌, ◌*◌, ◌-◌, ◌/◌, ◌%◌, ◌^◌, ◌<◌, ◌≤◌, min, Bool, true, false, cond, if◌then◌else◌, ltb, List, [], ◌∷◌, ◌++◌, length, take, drop, Option, Some, None, Result, Ok, Err, refl, sym, ap, ◌∙◌, subst, arith, append_assoc, take-take}
+use Rattle.std.specs.Prelude.{IsSome}
+use Rattle.std.proofs.lemmas.Bool.{false≢true, le-ltb, lt-ltb, and_right, and_left, and_from}
+use Rattle.std.proofs.lemmas.List.{append-nil, length-append, length-take-le, length-drop, take-append-drop, take-append-le, take_at, drop-take}
+use Rattle.std.proofs.Math.Seq.{take-append-add}
+use Rattle.std.specs.Io.KnownBytes.{IsAtEnd}
+use Rattle.bit_fields.specs.declared.inflow.Missing.{Missing}
+use Rattle.bit_fields.specs.declared.inflow.Missing.TheVariants.{End, Limit, Read}
+use Rattle.bit_grammar.specs.Bits.{bits_of_bytes}
+use Rattle.bit_fields.specs.Devices.{Incoming, Begins, Gave, GaveNone, GaveUnseen, Looked, Spends, Fails, known_bytes}
+use Rattle.bit_fields.specs.Inflow.{Flow, lending, IsKnown, stop_of, place_of, taken_of, flow_bits, total_of, is_flow_cut, budget_of, carried_of, IsFlow, Copies, KeepsFlow, LooksOn, Drops, NoMore, LostFlow, Asks, to_ask}
+use Rattle.bit_fields.proofs.BitLaws.{bits_of_bytes-append, length-bits_of_bytes, take_whole}
+use Rattle.bit_fields.proofs.InflowLaws.{Spends-refl, Spends-trans, fails_later, Keeps-refl, Keeps-trans, looked_spends, kept, at_end, came, gave_spends, lending_all, lent_known, lent_bytes, lent_after, lent_at_end, StillLent, spends_lent, fails_lent, looked_still, looked_lent, none_fails, drop_front, flow_length, looks_on}
+
+-- ---- the source of a flow
+
+pub known_so : (f : Flow) (i : Incoming) → f.incoming ≡ lending f.lent i → IsKnown f → IsSome (lending f.lent i).to_come
+known_so f i is k = subst (λ (x : Incoming). IsSome x.to_come) is k
+
+pub bytes_so : (f : Flow) (i : Incoming) → f.incoming ≡ lending f.lent i → IsKnown f → known_bytes f.incoming.to_come ≡ known_bytes i.to_come
+bytes_so f i is k = ap (λ (x : Incoming). known_bytes x.to_come) is ∙ lent_bytes f.lent i (known_so f i is k)
+
+-- the bits after bytes that were read
+pub moved_bits : (t x y : List ℕ) (stop before at count : ℕ) → length t ≡ count → x ≡ t ++ y → count ≤ stop - before → 8 * count ≤ at → drop (at - 8 * count) (bits_of_bytes (take (stop - (before + count)) y)) ≡ drop at (bits_of_bytes (take (stop - before) x))
+moved_bits t x y stop before at count len parts few past =
+    let room : stop - before - length t ≡ stop - (before + count) = omega (arith, len) in
+    let place : at - 8 * length t ≡ at - 8 * count = omega (arith, len) in
+    sym (ap (λ (b : List ℕ). drop at (bits_of_bytes (take (stop - before) b))) parts ∙ drop_front t y (stop - before) at (omega (arith, len, few)) (omega (arith, len, past))
+    ∙ ap (λ (n : ℕ). drop (at - 8 * length t) (bits_of_bytes (take n y))) room ∙ ap (λ (n : ℕ). drop n (bits_of_bytes (take (stop - (before + count)) y))) place)
+
+-- ---- bytes that are lent and read are taken
+
+not_true : (b : Bool) → (b ≡ true → ⊥) → b ≡ false
+not_true true never = absurd (never refl)
+not_true false never = refl
+
+-- a source that is at its end lends none
+pub going_so : (f : Flow) → IsFlow f → f.carry ≡ [] → 8 ≤ f.at → f.ended ≡ false
+going_so f was empty some = not_true f.ended (λ e. omega (arith, (was.ended e).2, was.place, some, ap length empty))
+
+passed_still : (lent count most : ℕ) (i j : Incoming) → GaveUnseen i j most count → StillLent lent (lent - count) i j
+passed_still lent count most i j gave k le = omega (arith, le, (came i j count gave.into gave.gave k).1)
+
+pub passes : (f : Flow) (i j : Incoming) (most count : ℕ) → f.incoming ≡ lending f.lent i → IsFlow f → f.carry ≡ [] → f.ended ≡ false → most ≡ f.at / 8 → (count ≡ 0 → ⊥) → GaveUnseen i j most count
+    → (g : Flow) → g ≡ record f { incoming = lending (f.lent - count) j; lent = f.lent - count; at = f.at - 8 * count; before = f.before + count } → KeepsFlow f g × IsFlow g × (to_ask g < to_ask f)
+passes f i j most count is was empty going most_is some gave g g_is =
+    let none : length f.carry ≡ 0 = ap length empty in
+    let few : count ≤ most = gave.few in
+    let read : 8 * count ≤ f.at = omega (arith, few, most_is) in
+    let begun : f.before + count ≤ stop_of f = omega (arith, read, was.place, was.begun) in
+    let enough : count ≤ f.lent = omega (arith, read, was.place, none) in
+    let one : 1 ≤ count = omega (arith, some) in
+    let still = passed_still f.lent count most i j gave in
+    let after : ℕ = f.limit + 1 - (f.before + count + length f.carry) in
+    let paid : Spends i (f.limit + 1 - taken_of f) j after = gave_spends i j count gave.into (f.limit + 1 - taken_of f) after gave.gave (omega (arith, begun, none, was.limit)) (omega (arith, begun, none, one)) in
+    rw g_is (
+      record {
+        end = refl;
+        limit = refl;
+        place = omega (arith, read);
+        spends = rw (going, is) (spends_lent i j f.lent (f.lent - count) (f.limit + 1 - taken_of f) after paid still);
+        left = λ k.
+            let all : f.carry ++ known_bytes f.incoming.to_come ≡ take count gave.into ++ known_bytes j.to_come = ap (λ (c : List ℕ). c ++ known_bytes f.incoming.to_come) empty ∙ bytes_so f i is k ∙ (came i j count gave.into gave.gave (lent_known f.lent i (known_so f i is k)).0).0 in
+            let rest : f.carry ++ known_bytes (lending (f.lent - count) j).to_come ≡ known_bytes j.to_come = ap (λ (c : List ℕ). c ++ known_bytes (lending (f.lent - count) j).to_come) empty ∙ lent_after f.lent (f.lent - count) i j still (known_so f i is k) in
+            ap (λ (b : List ℕ). drop (f.at - 8 * count) (bits_of_bytes (take (stop_of f - (f.before + count)) b))) rest
+            ∙ moved_bits (take count gave.into) (f.carry ++ known_bytes f.incoming.to_come) (known_bytes j.to_come) (stop_of f) f.before f.at count (length-take-le count gave.into gave.gave.fits) all (omega (arith, begun)) read;
+        total = λ k. omega (arith, ap length (bytes_so f i is k), ap length (lent_after f.lent (f.lent - count) i j still (known_so f i is k)), (came i j count gave.into gave.gave (lent_known f.lent i (known_so f i is k)).0).1);
+      },
+      record {
+        held = was.held;
+        begun = begun;
+        place = omega (arith, read, was.place, none, enough, begun);
+        carried = λ more. absurd (omega (arith, more, none));
+        within = λ more. omega (arith, was.within (omega (arith, more)), enough);
+        taken = omega (arith, begun, none);
+        limit = was.limit;
+        ended = λ e. absurd (false≢true (sym going ∙ e));
+      },
+      omega (arith, one, begun, none),
+    )
+
+-- the source lent them, and does not give them: its bytes are not known
+pub passes_unseen : (f : Flow) (i j : Incoming) (most count : ℕ) → f.incoming ≡ lending f.lent i → IsFlow f → f.carry ≡ [] → f.ended ≡ false → most ≡ f.at / 8 → 8 ≤ f.at → count ≡ 0 → GaveUnseen i j most count
+    → (g : Flow) → g ≡ record f { incoming = lending (f.lent - most) j; lent = f.lent - most; at = f.at - 8 * most; before = f.before + most } → KeepsFlow f g × IsFlow g × (to_ask g < to_ask f)
+passes_unseen f i j most count is was empty going most_is low zero_given gave g g_is =
+    let none : length f.carry ≡ 0 = ap length empty in
+    let read : 8 * most ≤ f.at = omega (arith, most_is) in
+    let one : 1 ≤ most = omega (arith, most_is, low) in
+    let begun : f.before + most ≤ stop_of f = omega (arith, read, was.place, was.begun) in
+    let enough : most ≤ f.lent = omega (arith, read, was.place, none) in
+    let given : Gave i j 0 gave.into = subst (λ (n : ℕ). Gave i j n gave.into) zero_given gave.gave in
+    let end : length (known_bytes j.to_come) ≡ 0 = ap length (at_end j.to_come (given.end refl gave.some)) in
+    let not_known : IsKnown f → ⊥ = λ k. let t = lent_known f.lent i (known_so f i is k) in omega (arith, t.1, (came i j 0 gave.into given t.0).1, end, one, enough) in
+    let still : StillLent f.lent (f.lent - most) i j = λ k le. omega (arith, le, (came i j 0 gave.into given k).1, end) in
+    let after : ℕ = f.limit + 1 - (f.before + most + length f.carry) in
+    rw g_is (
+      record {
+        end = refl;
+        limit = refl;
+        place = omega (arith, read);
+        spends = rw (going, is) (spends_lent i j f.lent (f.lent - most) (f.limit + 1 - taken_of f) after (gave_spends i j 0 gave.into (f.limit + 1 - taken_of f) after given (omega (arith, one)) (omega (arith, begun, none, one, was.limit))) still);
+        left = λ k. absurd (not_known k);
+        total = λ k. absurd (not_known k);
+      },
+      record {
+        held = was.held;
+        begun = begun;
+        place = omega (arith, read, was.place, none, enough, begun);
+        carried = λ more. absurd (omega (arith, more, none));
+        within = λ more. omega (arith, was.within (omega (arith, more)), enough);
+        taken = omega (arith, begun, none);
+        limit = was.limit;
+        ended = λ e. absurd (false≢true (sym going ∙ e));
+      },
+      omega (arith, one, begun, none),
+    )
+
+-- ---- the source fails
+
+pub same_flow : (f : Flow) (j : Incoming) → IsFlow f → f.ended ≡ false → IsFlow (record f { incoming = j })
+same_flow f j was going = record {
+  held = was.held;
+  begun = was.begun;
+  place = was.place;
+  carried = was.carried;
+  within = was.within;
+  taken = was.taken;
+  limit = was.limit;
+  ended = λ e. absurd (false≢true (sym going ∙ e));
+}
+
+pub lost : (f : Flow) (i j : Incoming) → f.incoming ≡ lending f.lent i → IsFlow f → f.ended ≡ false → taken_of f ≤ stop_of f → GaveNone i j → LostFlow f (record f { incoming = lending f.lent j })
+lost f i j is was going within none =
+    let still = looked_still f.lent i j none.bytes in
+    record {
+      place = refl;
+      fails = rw (going, is) (fails_lent i j f.lent f.lent (f.limit + 1 - taken_of f) 0 (none_fails i j (f.limit + 1 - taken_of f) none (omega (arith, within))) still);
+      total = λ k. omega (arith, ap length (bytes_so f i is k), ap length (lent_after f.lent f.lent i j still (known_so f i is k)), ap length (kept i.to_come j.to_come none.bytes (lent_known f.lent i (known_so f i is k)).0).1);
+      given = omega (arith, within, was.begun);
+    }
+
+-- ---- bytes of the carry are dropped
+
+-- the bytes of which all bits are read are in the carry
+pub whole_held : (f : Flow) → IsFlow f → (f.carry ≡ [] → f.at < 8) → f.at / 8 ≤ length f.carry
+whole_held f was low = enough f.carry refl
+  where
+    enough : (c : List ℕ) → f.carry ≡ c → f.at / 8 ≤ length f.carry
+    enough [] none = omega (arith, low none)
+    enough (b ∷ c) is = omega (arith, was.carried (omega (arith, ap length is)))
+
+pub drops : (f : Flow) (whole : ℕ) (rest : List ℕ) → IsFlow f → whole ≡ f.at / 8 → (f.carry ≡ [] → f.at < 8) → rest ≡ drop whole f.carry
+    → (g : Flow) → g ≡ record f { carry = rest; at = f.at - 8 * whole; before = f.before + whole } → Drops f g × IsFlow g
+drops f whole rest was whole_is low rest_is g g_is =
+    let read : 8 * whole ≤ f.at = omega (arith, whole_is) in
+    let there : whole ≤ length f.carry = omega (arith, whole_is, whole_held f was low) in
+    let len : length rest ≡ length f.carry - whole = ap length rest_is ∙ length-drop whole f.carry in
+    let begun : f.before + whole ≤ stop_of f = omega (arith, read, was.place, was.begun) in
+    let known : List ℕ = known_bytes f.incoming.to_come in
+    let parts : f.carry ++ known ≡ take whole f.carry ++ (rest ++ known) =
+    ap (λ (c : List ℕ). c ++ known) (sym (take-append-drop whole f.carry)) ∙ append_assoc (take whole f.carry) (drop whole f.carry) known ∙ ap (λ (c : List ℕ). take whole f.carry ++ (c ++ known)) (sym rest_is) in
+    rw g_is (
+      record {
+        incoming = refl;
+        lent = refl;
+        low = omega (arith, whole_is);
+        place = omega (arith, read);
+        taken = omega (arith, len, there);
+        end = refl;
+        limit = refl;
+        ended = refl;
+        left = moved_bits (take whole f.carry) (f.carry ++ known) (rest ++ known) (stop_of f) f.before f.at whole (length-take-le whole f.carry there) parts (omega (arith, begun)) read;
+      },
+      record {
+        held = omega (arith, was.held, len);
+        begun = begun;
+        place = omega (arith, read, was.place, len, there, begun);
+        carried = λ more. omega (arith, was.carried (omega (arith, more, len)), len, there, read);
+        within = λ more. omega (arith, was.within more, len, there);
+        taken = omega (arith, was.taken, len, there);
+        limit = was.limit;
+        ended = λ e. ((was.ended e).0, omega (arith, (was.ended e).1, len, there), (was.ended e).2);
+      },
+    )
+
+pub dropped_so : (f g : Flow) → Drops f g → KeepsFlow f g × (carried_of g ≡ carried_of f)
+dropped_so f g d =
+    let stop : stop_of g ≡ stop_of f = omega (arith, d.end, d.limit) in
+    let budget : budget_of f ≡ budget_of g = rw (d.ended, d.limit, d.taken) refl in (
+      record {
+        end = d.end;
+        limit = d.limit;
+        place = d.place;
+        spends = subst (λ (i : Incoming). Spends f.incoming (budget_of f) i (budget_of g)) (sym d.incoming) (subst (λ (n : ℕ). Spends f.incoming (budget_of f) f.incoming n) budget (Spends-refl f.incoming (budget_of f)));
+        left = λ k. d.left;
+        total = λ k. omega (arith, d.taken, ap (λ (i : Incoming). length (known_bytes i.to_come)) d.incoming);
+      },
+      omega (arith, stop, d.taken, d.place),
+    )
+
+-- ---- bytes are taken into the carry
+
+pub record Joins (f : Flow) (more : List ℕ) (lent : ℕ) (j : Incoming) : Type 0 where
+  pub some : 0 < length more
+  pub room : length f.carry + length more ≤ 64
+  pub low : f.at < 8
+  pub within : taken_of f + length more ≤ stop_of f
+  pub lent_is : f.lent ≤ length more + lent
+  pub more_lent : 0 < lent → lent + length more ≤ f.lent
+  pub going : f.ended ≡ false
+  pub spends : Spends f.incoming (f.limit + 1 - taken_of f) (lending lent j) (f.limit + 1 - (taken_of f + length more))
+  pub bytes : IsKnown f → known_bytes f.incoming.to_come ≡ more ++ known_bytes (lending lent j).to_come
+
+pub joined : (f : Flow) (more : List ℕ) (lent : ℕ) (j : Incoming) → IsFlow f → Joins f more lent j → (carry : List ℕ) → carry ≡ f.carry ++ more → (g : Flow) → g ≡ record f { carry = carry; incoming = lending lent j; lent = lent } → KeepsFlow f g × IsFlow g × (to_ask g < to_ask f)
+joined f more lent j was is carry carry_is g g_is =
+    let len : length (f.carry ++ more) ≡ length f.carry + length more = length-append f.carry more in
+    let taken : f.before + length (f.carry ++ more) ≡ taken_of f + length more = omega (arith, len) in
+    rw (g_is, carry_is) (
+      record {
+        end = refl;
+        limit = refl;
+        place = refl;
+        spends = rw (is.going, taken) is.spends;
+        left = λ k. ap (λ (b : List ℕ). drop f.at (bits_of_bytes (take (stop_of f - f.before) b))) (append_assoc f.carry more (known_bytes (lending lent j).to_come) ∙ ap (λ (b : List ℕ). f.carry ++ b) (sym (is.bytes k)));
+        total = λ k. omega (arith, len, ap length (is.bytes k), length-append more (known_bytes (lending lent j).to_come));
+      },
+      record {
+        held = omega (arith, len, is.room);
+        begun = was.begun;
+        place = omega (arith, was.place, len, is.lent_is);
+        carried = λ some. omega (arith, is.low, len, is.some);
+        within = λ some. omega (arith, len, was.within (omega (arith, some, is.more_lent some)), is.more_lent some);
+        taken = omega (arith, len, is.within);
+        limit = was.limit;
+        ended = λ e. absurd (false≢true (sym is.going ∙ e));
+      },
+      omega (arith, len, is.some, is.within),
+    )
+
+-- what a pull gave
+pub pulled : (f : Flow) (i j : Incoming) (count room : ℕ) (into : List ℕ) → f.incoming ≡ lending f.lent i → f.ended ≡ false → f.at < 8 → length f.carry + length into ≤ 64 → taken_of f + length into ≤ stop_of f → (count ≡ 0 → ⊥) → Gave i j count into → Joins f (take count into) (f.lent - count) j
+pulled f i j count room into is going low free within some gave =
+    let len : length (take count into) ≡ count = length-take-le count into gave.fits in
+    let after : ℕ = f.limit + 1 - (taken_of f + length (take count into)) in
+    let still : StillLent f.lent (f.lent - count) i j = λ k le. omega (arith, le, (came i j count into gave k).1) in
+    record {
+      some = omega (arith, len, some);
+      room = omega (arith, len, gave.fits, free);
+      low = low;
+      within = omega (arith, len, gave.fits, within);
+      lent_is = omega (arith, len);
+      more_lent = λ more. omega (arith, len, more);
+      spends = rw is (spends_lent i j f.lent (f.lent - count) (f.limit + 1 - taken_of f) after (gave_spends i j count into (f.limit + 1 - taken_of f) after gave (omega (arith, len, gave.fits, within)) (omega (arith, len, some, gave.fits, within))) still);
+      bytes = λ k. bytes_so f i is k ∙ (came i j count into gave (lent_known f.lent i (known_so f i is k)).0).0 ∙ ap (λ (b : List ℕ). take count into ++ b) (sym (lent_after f.lent (f.lent - count) i j still (known_so f i is k)));
+      going = going;
+    }
+
+-- a pull gave nothing, though the source has lent a byte: its bytes are not known
+pub pulled_unseen : (f : Flow) (i j : Incoming) (count : ℕ) (into : List ℕ) → f.incoming ≡ lending f.lent i → f.ended ≡ false → f.at < 8 → length f.carry < 64 → taken_of f < stop_of f → count ≡ 0 → 0 < f.lent → 0 < length into → Gave i j count into → Joins f (take 1 into) (f.lent - 1) j
+pulled_unseen f i j count into is going low free within zero_given lent room gave =
+    let given : Gave i j 0 into = subst (λ (n : ℕ). Gave i j n into) zero_given gave in
+    let none : length (known_bytes j.to_come) ≡ 0 = ap length (at_end j.to_come (given.end refl room)) in
+    let nothing : IsSome i.to_come → length (known_bytes i.to_come) ≡ 0 = λ k. omega (arith, (came i j 0 into given k).1, none) in
+    let not_known : IsKnown f → ⊥ = λ k. let t = lent_known f.lent i (known_so f i is k) in omega (arith, t.1, nothing t.0, lent) in
+    let len : length (take 1 into) ≡ 1 = length-take-le 1 into (omega (arith, room)) in
+    let after : ℕ = f.limit + 1 - (taken_of f + length (take 1 into)) in
+    record {
+      some = omega (arith, len);
+      room = omega (arith, len, free);
+      low = low;
+      within = omega (arith, len, within);
+      lent_is = omega (arith, len);
+      more_lent = λ more. omega (arith, len, more);
+      going = going;
+      spends = rw is (spends_lent i j f.lent (f.lent - 1) (f.limit + 1 - taken_of f) after (gave_spends i j 0 into (f.limit + 1 - taken_of f) after given (omega arith) (omega (arith, len, within))) (λ k le. omega (arith, le, nothing k)));
+      bytes = λ k. absurd (not_known k);
+    }
+
+-- bytes that a source shows, and the front of what it has
+pub shown_front : (o : Option (List ℕ)) (shown : List ℕ) → Begins o shown → IsSome o → take (length shown) (known_bytes o) ≡ shown
+shown_front None shown front known = absurd cc
+shown_front (Some all) shown front known = front
+
+-- what was copied was then taken
+pub copied_taken : (f : Flow) (i j l : Incoming) (count copied : ℕ) (shown : List ℕ) → f.incoming ≡ lending f.lent i → f.ended ≡ false → f.at < 8 → IsFlow f → length f.carry + length shown ≤ 64 → length shown ≡ copied → copied ≤ f.lent → Looked i j → Begins i.to_come shown → (count ≡ 0 → ⊥) → GaveUnseen j l copied count → Joins f (take count shown) (f.lent - count) l
+copied_taken f i j l count copied shown is going low was free copied_is enough looked front some gave =
+    let len : length (take count shown) ≡ count = length-take-le count shown (omega (arith, gave.few, copied_is)) in
+    let after : ℕ = f.limit + 1 - (taken_of f + length (take count shown)) in
+    let same : IsSome i.to_come → known_bytes i.to_come ≡ known_bytes j.to_come = λ k. (kept i.to_come j.to_come looked.bytes k).1 in
+    let gone : IsSome i.to_come → known_bytes i.to_come ≡ take count gave.into ++ known_bytes l.to_come = λ k. same k ∙ (came j l count gave.into gave.gave (kept i.to_come j.to_come looked.bytes k).0).0 in
+    let gone_len : IsSome i.to_come → length (known_bytes i.to_come) ≡ count + length (known_bytes l.to_come) = λ k. omega (arith, ap length (same k), (came j l count gave.into gave.gave (kept i.to_come j.to_come looked.bytes k).0).1) in
+    let first : IsSome i.to_come → take count shown ≡ take count gave.into = λ k.
+        ap (take count) (sym (shown_front i.to_come shown front k)) ∙ take-take count (length shown) (known_bytes i.to_come) (omega (arith, gave.few, copied_is)) ∙ ap (take count) (gone k) ∙ take_at (take count gave.into) (known_bytes l.to_come) count (length-take-le count gave.into gave.gave.fits) in
+    let still : StillLent f.lent (f.lent - count) i l = λ k le. omega (arith, le, gone_len k) in
+    let within : taken_of f + copied ≤ stop_of f = omega (arith, was.within (omega (arith, enough, gave.few, some)), enough) in
+    record {
+      some = omega (arith, len, some);
+      room = omega (arith, len, gave.few, copied_is, free);
+      low = low;
+      within = omega (arith, len, gave.few, within);
+      lent_is = omega (arith, len);
+      more_lent = λ more. omega (arith, len, more);
+      spends = rw is (spends_lent i l f.lent (f.lent - count) (f.limit + 1 - taken_of f) after (Spends-trans i (f.limit + 1 - taken_of f) j (f.limit + 1 - taken_of f) l after (looked_spends i j (f.limit + 1 - taken_of f) looked) (gave_spends j l count gave.into (f.limit + 1 - taken_of f) after gave.gave (omega (arith, len, gave.few, within)) (omega (arith, len, some, gave.few, within)))) still);
+      bytes = λ k. let known = (lent_known f.lent i (known_so f i is k)).0 in bytes_so f i is k ∙ gone known ∙ ap (λ (b : List ℕ). b ++ known_bytes l.to_come) (sym (first known)) ∙ ap (λ (b : List ℕ). take count shown ++ b) (sym (lent_after f.lent (f.lent - count) i l still (known_so f i is k)));
+      going = going;
+    }
+
+-- the source does not give them: its bytes are not known
+pub copied_unseen : (f : Flow) (i j l : Incoming) (count copied : ℕ) (shown : List ℕ) → f.incoming ≡ lending f.lent i → f.ended ≡ false → f.at < 8 → IsFlow f → length f.carry + length shown ≤ 64 → length shown ≡ copied → copied ≤ f.lent → (copied ≡ 0 → ⊥) → Looked i j → count ≡ 0 → GaveUnseen j l copied count → Joins f shown (f.lent - copied) l
+copied_unseen f i j l count copied shown is going low was free copied_is enough some looked zero_given gave =
+    let given : Gave j l 0 gave.into = subst (λ (n : ℕ). Gave j l n gave.into) zero_given gave.gave in
+    let end = given.end refl gave.some in
+    let none : length (known_bytes l.to_come) ≡ 0 = ap length (at_end l.to_come end) in
+    let nothing : IsSome i.to_come → length (known_bytes i.to_come) ≡ 0 = λ k. omega (arith, ap length (kept i.to_come j.to_come looked.bytes k).1, (came j l 0 gave.into given (kept i.to_come j.to_come looked.bytes k).0).1, none) in
+    let not_known : IsKnown f → ⊥ = λ k. let t = lent_known f.lent i (known_so f i is k) in omega (arith, t.1, nothing t.0, some, enough) in
+    let within : taken_of f + copied ≤ stop_of f = omega (arith, was.within (omega (arith, enough, some)), enough) in
+    let still : StillLent f.lent (f.lent - copied) i l = λ k le. omega (arith, le, nothing k) in
+    record {
+      some = omega (arith, copied_is, some);
+      room = free;
+      low = low;
+      within = omega (arith, copied_is, within);
+      lent_is = omega (arith, copied_is);
+      more_lent = λ more. omega (arith, copied_is, more);
+      spends = rw is (spends_lent i l f.lent (f.lent - copied) (f.limit + 1 - taken_of f) (f.limit + 1 - (taken_of f + length shown)) (Spends-trans i (f.limit + 1 - taken_of f) j (f.limit + 1 - taken_of f) l (f.limit + 1 - (taken_of f + length shown)) (looked_spends i j (f.limit + 1 - taken_of f) looked) (gave_spends j l 0 gave.into (f.limit + 1 - taken_of f) (f.limit + 1 - (taken_of f + length shown)) given (omega arith) (omega (arith, within, some, copied_is)))) still);
+      bytes = λ k. absurd (not_known k);
+      going = going;
+    }
+
+-- the carry after bytes were copied behind it
+pub copied_carry : (held count copied : ℕ) (old new shown : List ℕ) → length (take held old) ≡ held → take (held + copied) new ≡ take held old ++ shown → count ≤ copied → take (held + count) new ≡ take held old ++ take count shown
+copied_carry held count copied old new shown len is few =
+    let all : held + count ≡ length (take held old) + count = omega (arith, len) in
+    sym (take-take (held + count) (held + copied) new (omega (arith, few))) ∙ ap (take (held + count)) is ∙ ap (λ (n : ℕ). take n (take held old ++ shown)) all ∙ take-append-add (take held old) shown count
+
+-- bytes that were written behind the first ones of a list
+pub written_behind : (held count : ℕ) (old new post : List ℕ) → held ≤ length old → count ≤ length new → take (held + count) (take held old ++ (new ++ post)) ≡ take held old ++ take count new
+written_behind held count old new post there few =
+    let all : held + count ≡ length (take held old) + count = omega (arith, length-take-le held old there) in
+    ap (λ (n : ℕ). take n (take held old ++ (new ++ post))) all ∙ take-append-add (take held old) (new ++ post) count ∙ ap (λ (b : List ℕ). take held old ++ b) (take-append-le count new post few)
+
+-- bytes of the carry that were moved to its front
+pub moved_front : (whole held left : ℕ) (old new post : List ℕ) → whole ≤ held → held ≤ length old → left ≡ held - whole → new ≡ take left (drop whole old) → take left (new ++ post) ≡ drop whole (take held old)
+moved_front whole held left old new post few there left_is new_is =
+    let all : whole + left ≡ held = omega (arith, left_is, few) in
+    let len : length new ≡ left = omega (arith, ap length new_is, length-take-le left (drop whole old) (omega (arith, length-drop whole old, there, left_is, few))) in
+    take_at new post left len ∙ new_is ∙ sym (drop-take whole left old) ∙ ap (λ (n : ℕ). drop whole (take n old)) all
+
+pub copies_so : (to_come : Option (List ℕ)) (held count : ℕ) (old new shown post : List ℕ) → held ≤ length old → count ≤ length shown → new ≡ take count shown → Begins to_come shown → Copies to_come held count old (take held old ++ (new ++ post))
+copies_so to_come held count old new shown post there few new_is front =
+    let len : length new ≡ count = omega (arith, ap length new_is, length-take-le count shown few) in
+    let whole : take count new ≡ new = take_whole count new (omega (arith, len)) in
+    record { shown = new; long = len; front = subst (Begins to_come) (sym new_is) (shorter to_come front); is = written_behind held count old new post there (omega (arith, len)) ∙ ap (λ (b : List ℕ). take held old ++ b) whole }
+  where
+    shorter : (o : Option (List ℕ)) → Begins o shown → Begins o (take count shown)
+    shorter None front = tt
+    shorter (Some all) front =
+        let n : length (take count shown) ≡ count = length-take-le count shown few in
+        ap (λ (m : ℕ). take m all) n ∙ sym (take-take count (length shown) all (omega (arith, few))) ∙ ap (take count) front
+
+-- ---- no more bytes come
+
+pub stops_again : (f : Flow) → IsFlow f → f.ended ≡ true → NoMore f f false
+stops_again f was e =
+    let end = was.ended e in
+    let none : length (known_bytes f.incoming.to_come) ≡ 0 = ap length (at_end f.incoming.to_come end.0) in
+    record { keeps = Keeps-refl f; left = omega (arith, flow_length f, none); cut = and_left (ltb f.limit (total_of f)) (ltb f.limit f.end) (le-ltb f.limit (total_of f) (omega (arith, end.1, none))) }
+
+pub stops_at_end : (f : Flow) → stop_of f ≤ taken_of f → f.end ≤ f.limit → NoMore f f false
+stops_at_end f at le = record { keeps = Keeps-refl f; left = omega (arith, flow_length f, at); cut = and_right (ltb f.limit (total_of f)) (ltb f.limit f.end) (le-ltb f.limit f.end le) }
+
+pub stops_at_limit : (f : Flow) → stop_of f ≤ taken_of f → f.limit < f.end → f.limit < taken_of f → NoMore f f true
+stops_at_limit f at lt over = record { keeps = Keeps-refl f; left = omega (arith, flow_length f, at); cut = and_from (ltb f.limit (total_of f)) (ltb f.limit f.end) (lt-ltb f.limit (total_of f) (omega (arith, over))) (lt-ltb f.limit f.end lt) }
+
+-- the source returns now that it is at its end
+pub ends_here : (f : Flow) (i j : Incoming) (count : ℕ) (into : List ℕ) → f.incoming ≡ lending f.lent i → IsFlow f → f.ended ≡ false → f.lent ≡ 0 → taken_of f ≤ f.limit → count ≡ 0 → 0 < length into → Gave i j count into → (g : Flow) → g ≡ record f { incoming = lending f.lent j; ended = true } → NoMore f g false × IsFlow g
+ends_here f i j count into is was going none_lent le zero_given room gave g g_is =
+    let given : Gave i j 0 into = subst (λ (n : ℕ). Gave i j n into) zero_given gave in
+    let end = given.end refl room in
+    let none : known_bytes j.to_come ≡ [] = at_end j.to_come end in
+    let nothing : IsSome i.to_come → known_bytes i.to_come ≡ [] = λ k. (came i j 0 into given k).0 ∙ none in
+    let still : StillLent f.lent f.lent i j = λ k l. omega (arith, l, ap length (nothing k)) in
+    let before : IsKnown f → known_bytes f.incoming.to_come ≡ [] = λ k. bytes_so f i is k ∙ nothing (lent_known f.lent i (known_so f i is k)).0 in
+    let after : known_bytes (lending f.lent j).to_come ≡ [] = at_end (lending f.lent j).to_come (lent_at_end f.lent j end) in
+    let later : Flow = record f { incoming = lending f.lent j; ended = true } in
+    rw g_is (
+      record {
+        keeps = record {
+          end = refl;
+          limit = refl;
+          place = refl;
+          spends = rw (going, is) (spends_lent i j f.lent f.lent (f.limit + 1 - taken_of f) 0 (gave_spends i j 0 into (f.limit + 1 - taken_of f) 0 given (omega arith) (omega (arith, le))) still);
+          left = λ k. ap (λ (b : List ℕ). drop f.at (bits_of_bytes (take (stop_of f - f.before) (f.carry ++ b)))) (after ∙ sym (before k));
+          total = λ k. omega (arith, ap length after, ap length (before k));
+        };
+        left = omega (arith, flow_length later, ap length after);
+        cut = and_left (ltb f.limit (total_of later)) (ltb f.limit f.end) (le-ltb f.limit (total_of later) (omega (arith, le, ap length after)));
+      },
+      record { held = was.held; begun = was.begun; place = was.place; carried = was.carried; within = was.within; taken = was.taken; limit = was.limit; ended = λ e. (lent_at_end f.lent j end, le, none_lent) },
+    )
+
+-- a byte past the limit shows that the input is longer
+pub goes_past : (f : Flow) (i j : Incoming) (count : ℕ) (into : List ℕ) → f.incoming ≡ lending f.lent i → IsFlow f → f.ended ≡ false → f.lent ≡ 0 → f.at < 8 → length f.carry ≤ 8 → stop_of f ≤ taken_of f → taken_of f ≤ f.limit → f.limit < f.end → (count ≡ 0 → ⊥) → length into ≡ 1 → Gave i j count into
+    → (carry : List ℕ) → carry ≡ f.carry ++ take 1 into → (g : Flow) → g ≡ record f { carry = carry; incoming = lending f.lent j } → NoMore f g true × IsFlow g
+goes_past f i j count into is was going none_lent low few at le lt some one gave carry carry_is g g_is =
+    let count_is : count ≡ 1 = omega (arith, gave.fits, one, some) in
+    let given : Gave i j 1 into = subst (λ (n : ℕ). Gave i j n into) count_is gave in
+    let len : length (f.carry ++ take 1 into) ≡ length f.carry + 1 = omega (arith, length-append f.carry (take 1 into), length-take-le 1 into given.fits) in
+    let still : StillLent f.lent f.lent i j = λ k l. omega (arith, none_lent) in
+    let later : Flow = record f { carry = f.carry ++ take 1 into; incoming = lending f.lent j } in
+    let bytes : IsKnown f → known_bytes f.incoming.to_come ≡ take 1 into ++ known_bytes (lending f.lent j).to_come = λ k. bytes_so f i is k ∙ (came i j 1 into given (lent_known f.lent i (known_so f i is k)).0).0 ∙ ap (λ (b : List ℕ). take 1 into ++ b) (sym (lent_after f.lent f.lent i j still (known_so f i is k))) in
+    let after : ℕ = f.limit + 1 - taken_of later in
+    rw (g_is, carry_is) (
+      record {
+        keeps = record {
+          end = refl;
+          limit = refl;
+          place = refl;
+          spends = rw (going, is) (spends_lent i j f.lent f.lent (f.limit + 1 - taken_of f) after (gave_spends i j 1 into (f.limit + 1 - taken_of f) after given (omega (arith, len, le)) (omega (arith, len, le))) still);
+          left = λ k. ap (λ (b : List ℕ). drop f.at (bits_of_bytes (take (stop_of f - f.before) b))) (append_assoc f.carry (take 1 into) (known_bytes (lending f.lent j).to_come) ∙ ap (λ (b : List ℕ). f.carry ++ b) (sym (bytes k)));
+          total = λ k. omega (arith, len, ap length (bytes k), length-append (take 1 into) (known_bytes (lending f.lent j).to_come), length-take-le 1 into given.fits);
+        };
+        left = omega (arith, flow_length later, at);
+        cut = and_from (ltb f.limit (total_of later)) (ltb f.limit f.end) (lt-ltb f.limit (total_of later) (omega (arith, len, at, lt))) (lt-ltb f.limit f.end lt);
+      },
+      record {
+        held = omega (arith, len, few);
+        begun = was.begun;
+        place = omega (arith, was.place, len);
+        carried = λ more. omega (arith, low, len);
+        within = λ more. absurd (omega (arith, more, none_lent));
+        taken = omega (arith, len, le);
+        limit = was.limit;
+        ended = λ e. absurd (false≢true (sym going ∙ e));
+      },
+    )
+
+-- ---- one step after another
+
+-- what comes after a state that has the same bits left and in the carry
+pub asks_after : (f m g : Flow) (result : Result (Unit {0}) Missing) → KeepsFlow f m → carried_of m ≡ carried_of f → Asks m g result → Asks f g result
+asks_after f m g (Ok x) keeps same asks = Keeps-trans f m g keeps asks
+asks_after f m g (Err End) keeps same asks = record { keeps = Keeps-trans f m g keeps asks.keeps; left = omega (arith, asks.left, same); cut = asks.cut }
+asks_after f m g (Err Limit) keeps same asks = record { keeps = Keeps-trans f m g keeps asks.keeps; left = omega (arith, asks.left, same); cut = asks.cut }
+asks_after f m g (Err Read) keeps same asks = record {
+  place = asks.place ∙ keeps.place;
+  fails = fails_later f.incoming (budget_of f) m.incoming (budget_of m) g.incoming 0 keeps.spends asks.fails;
+  total = λ k. asks.total (keeps.spends.tells k) ∙ keeps.total k;
+  given = omega (arith, asks.given, keeps.place, same);
+}
+
+pub carried_on : (f g : Flow) → LooksOn f g → carried_of g ≡ carried_of f
+carried_on f g looks = ap carried_of looks.same
+
+pub asked_on : (f g : Flow) → LooksOn f g → to_ask g ≡ to_ask f
+asked_on f g looks = ap to_ask looks.same

@@ -1,0 +1,28 @@
+use Rattle.std.proofs.Common.{◌≤◌, ◌<◌, ◌+◌, ◌*◌, ◌-◌, ◌^◌, ap, ◌∙◌, refl, arith}
+use Rattle.std.proofs.lemmas.Nat.{one_shl, mod_below, pow_pos}
+use Rattle.bit_fields.specs.Buffered.{BufferedBits, beyond, reader_at}
+use Rattle.bit_fields.specs.PlacedView.{placed}
+use Rattle.bit_fields.proofs.Chunks.{one_chunk, next_chunk, last_chunk, sum_fits}
+use Rattle.bit_fields.proofs.LentParts.{chunking_goes_on}
+use Rattle.bit_fields.proofs.PlacedFields.{front_part, front_took}
+use Rattle.bit_fields.proofs.placed.PlacedBits.chunk_by_chunk.Goals as goal
+
+pub after-bits-requires : goal.after-bits-requires
+after-bits-requires c = omega (arith, c.from.ensures, c.in_ok-chunk.ensures.some.there)
+
+pub returns-then-chunk-n : goal.returns-then-chunk-n
+returns-then-chunk-n c =
+    let n = c.args.n.bits in
+    let a = placed c.args.self in
+    let last : c.in_ok-chunk.chunk < 2 ^ (n - 1) = let s = one_shl (n - 1) 64 (omega arith) in rw s at c.if-chunk-n.true in
+    let took = front_took n a.position c.in_ok-chunk.chunk a (placed c.after-bits.result) c.in_ok-chunk.ensures.some (c.after-bits.ensures.rest ∙ ap (beyond a) c.from.ensures) in
+    (one_chunk n a.position (reader_at a) c.in_ok-chunk.chunk (reader_at (placed c.after-bits.result)) c.args.n.some c.args.n.few refl last took).reads refl
+
+pub loop-place-init : goal.loop-place-init
+loop-place-init c =
+    let n = c.args.n.bits in
+    let a = placed c.args.self in
+    let goes : 2 ^ (n - 1) ≤ c.in_ok-chunk.chunk = let s = one_shl (n - 1) 64 (omega arith) in rw s at c.if-chunk-n.false in
+    let below : c.payload_of-value.result < 2 ^ (n - 1) = omega (arith, c.payload_of-value.ensures, mod_below c.in_ok-chunk.chunk (2 ^ (n - 1)) (pow_pos (n - 1))) in
+    let after = c.after-bits.ensures.rest ∙ ap (beyond a) c.from.ensures in
+    chunking_goes_on n a (placed c.after-bits.result) c.in_ok-chunk.chunk c.payload_of-value.result c.args.n.some c.args.n.few goes c.payload_of-value.ensures below (omega (arith, ap (λ (x : BufferedBits). x.position) after)) (rw after (front_part n a.position c.in_ok-chunk.chunk a c.in_ok-chunk.ensures.some))
