@@ -9,6 +9,9 @@ use crate::taking::take_some;
 use bit_fields::{BitReader, Fault, Source, ValueTaker};
 use bit_grammar::{Op, Reason};
 
+/// How many fields the reader reads before more are looked for in place.
+const FEW: u64 = 16;
+
 /// Gives a value to the value sink.
 #[inline(always)]
 fn keep<S: Source, V: ValueTaker>(
@@ -31,6 +34,7 @@ fn read_count<S: Source>(reader: &mut BitReader<S>, room: u64) -> Result<u64, Fa
 }
 
 /// Reads the field of an operand that gives one value.
+#[inline(always)]
 fn read_scalar<S: Source>(reader: &mut BitReader<S>, op: Op) -> Result<u64, Fault> {
     match op {
         Op::Literal(value) => Ok(value),
@@ -76,7 +80,38 @@ fn read_some<S: Source, V: ValueTaker>(
     Ok(count)
 }
 
-/// Reads `count` fields of an operand: those that are there at once, and one after each such run.
+/// Reads `count` fields of an operand by the reader alone.
+#[inline(always)]
+fn read_each<S: Source, V: ValueTaker>(
+    reader: &mut BitReader<S>,
+    count: u64,
+    op: Op,
+    values: &mut V,
+) -> Result<(), Fault> {
+    for _ in 0..count {
+        let value = read_scalar(reader, op)?;
+        keep(reader, values, value)?;
+    }
+    Ok(())
+}
+
+/// The same in a loop for each kind of operand.
+#[inline(never)]
+fn read_few<S: Source, V: ValueTaker>(
+    reader: &mut BitReader<S>,
+    count: u64,
+    op: Op,
+    values: &mut V,
+) -> Result<(), Fault> {
+    match op {
+        Op::Fixed(width) => read_each(reader, count, Op::Fixed(width), values),
+        Op::Vbr(width) => read_each(reader, count, Op::Vbr(width), values),
+        Op::Char6 => read_each(reader, count, Op::Char6, values),
+        Op::Literal(_) | Op::Array | Op::Blob => unreachable!(),
+    }
+}
+
+/// Reads `count` fields of an operand: those that are there at once, and a few after each such run.
 fn read_elements<S: Source, V: ValueTaker>(
     reader: &mut BitReader<S>,
     count: u64,
@@ -87,15 +122,13 @@ fn read_elements<S: Source, V: ValueTaker>(
         return read_zeros(reader, count, values);
     }
     let mut done = 0;
-    loop {
+    while done < count {
         done += read_some(reader, count - done, op, values)?;
-        if done == count {
-            return Ok(());
-        }
-        let value = read_scalar(reader, op)?;
-        keep(reader, values, value)?;
-        done += 1;
+        let few = FEW.min(count - done);
+        read_few(reader, few, op, values)?;
+        done += few;
     }
+    Ok(())
 }
 
 /// Reads the elements of an array, or the bytes of a blob, after their number.

@@ -5,7 +5,9 @@ use crate::definitions::InForce;
 use crate::held_op::{HeldOp, great_value};
 use crate::layout::Layout;
 use crate::walk::value_of;
-use bit_fields::{ChunkTops, ChunkWidth, FieldWidth, NotTaken, PlacedBits, ValueTaker};
+use bit_fields::{
+    ChunkTops, ChunkWidth, FieldWidth, NotTaken, PlacedBits, ValueTaker, character,
+};
 
 /// How many fields of one width are passed over at once at most, so that their bits can be counted.
 const MOST_SKIPPED: u64 = 1 << 32;
@@ -50,6 +52,40 @@ fn skip_numbers<'a>(from: PlacedBits<'a>, most: u64, n: ChunkWidth) -> (u64, Pla
     }
 }
 
+/// The value of a single operand, and the bits after its field, if it is there.
+#[inline(always)]
+fn last_of<'a>(bits: PlacedBits<'a>, op: HeldOp) -> Option<(u64, PlacedBits<'a>)> {
+    let (value, width) = match op {
+        HeldOp::Literal(value) => (u64::from(value), 0),
+        HeldOp::Fixed(width) => (bits.part(u32::from(width))?, u64::from(width)),
+        HeldOp::Vbr(width) => return bits.vbr(ChunkWidth::of(width)),
+        _ => (character(bits.part(6)?), 6),
+    };
+    Some((value, bits.after(width)))
+}
+
+/// Takes at most so many fields of a single operand where fewer than 64 bits are there: how many, and the bits behind them.
+#[cold]
+#[inline(never)]
+fn take_last<'a, V: ValueTaker>(
+    from: PlacedBits<'a>,
+    most: u64,
+    op: HeldOp,
+    values: &mut V,
+) -> Result<(u64, PlacedBits<'a>), NotTaken> {
+    let mut bits = from;
+    let mut left = most;
+    while left > 0 {
+        let Some((value, after)) = last_of(bits, op) else {
+            break;
+        };
+        values.take(value)?;
+        bits = after;
+        left -= 1;
+    }
+    Ok((most - left, bits))
+}
+
 /// Takes at most so many fields of a single operand, those that are there: how many, and the bits behind them. What the value sink need
 /// not know is passed over.
 #[inline(always)]
@@ -63,7 +99,8 @@ fn take_each<'a, V: ValueTaker>(
     let mut left = most;
     while left > 0 && !values.pass(0) {
         if !bits.has(64) {
-            return Ok((most - left, bits));
+            let (last, after) = take_last(bits, left, op, values)?;
+            return Ok((most - left + last, after));
         }
         let Some((value, after)) = value_of(bits, op, 0) else {
             return Ok((most - left, bits));
@@ -104,6 +141,16 @@ pub(crate) fn take_some<'a, V: ValueTaker>(
     }
 }
 
+/// How many bits the field of a single operand has at least.
+#[inline(always)]
+fn least_width(op: HeldOp) -> u64 {
+    match op {
+        HeldOp::Literal(_) => 0,
+        HeldOp::Fixed(width) | HeldOp::Vbr(width) => u64::from(width),
+        _ => 6,
+    }
+}
+
 /// Takes so many fields, or declines them.
 #[inline(always)]
 fn take_all<'a, V: ValueTaker>(
@@ -112,6 +159,9 @@ fn take_all<'a, V: ValueTaker>(
     op: HeldOp,
     values: &mut V,
 ) -> Option<PlacedBits<'a>> {
+    if count.min(MOST_SKIPPED) * least_width(op) > bits.len() {
+        return None;
+    }
     let taken = match op {
         HeldOp::Fixed(0) | HeldOp::Vbr(0) => return None,
         HeldOp::Vbr(6) => take_each(bits, count, HeldOp::Vbr(6), values),

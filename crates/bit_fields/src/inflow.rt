@@ -1,6 +1,6 @@
 ghost use Rattle.std.specs.Prelude.{ℕ, ◌≡◌, ◌+◌, ◌*◌, ◌-◌, ◌<◌, ◌≤◌, ◌^◌, ◌⊎◌, length, true, false, take, drop, [], OnErr, OnOk, IfOk, IfSome, IfNone, Err};
 ghost use Rattle.bit_grammar.specs.Bits.{number};
-ghost use Rattle.bit_fields.specs.Inflow.{IsFlow, IsKnown, KeepsFlow, LooksOn, LostFlow, Shows, Advances, TakesBits, Lacks, Drops, Asks, TakesLate, Waits, SkipsSome, Shortens, Copies, HandsOver, IsSettled, Settles, Drains, stop_of, taken_of, place_of, carried_of, there_of, budget_of, to_ask};
+ghost use Rattle.bit_fields.specs.Inflow.{IsFlow, IsKnown, KeepsFlow, LooksOn, LostFlow, Shows, ShowsFront, Advances, TakesBits, Lacks, Drops, Asks, TakesLate, Waits, SkipsSome, Shortens, Copies, HandsOver, IsSettled, Settles, Drains, stop_of, taken_of, place_of, carried_of, there_of, budget_of, to_ask, flow_bits};
 ghost use Rattle.bit_fields.specs.PlacedView.{placed};
 ghost use Rattle.std.specs.Borrow.{sem};
 ghost use Rattle.bit_fields.specs.Devices.{Looked, Fails, Spends, known_bytes};
@@ -254,23 +254,17 @@ impl<S: Source> Inflow<S> {
         PlacedBits::at_most(&self.carry[..self.held + count], 8 * self.before, self.at)
     }
 
-    /// The number of the first n bits, if they are there.
+    /// Whether n bits are in the carry.
     #[inline(always)]
-    pub fn front(&mut self, n: u32) -> Option<u64>
-        requires { n ≤ 32 }
-        ensures some { IfSome result (λ value. ShowsFront n value self.old self.new) }
-        ensures below { IfSome result (λ value. value < 2 ^ n) }
-        ensures none { IfNone result (Lacks n self.old self.new) }
+    pub fn holds(&self, n: u32) -> bool
+        ensures { result ≡ true → n ≤ carried_of self.now }
     {
-        if self.at + u64::from(n) <= 8 * self.held as u64 {
-            return Some(self.carried(n));
-        }
-        self.lent_front(n)
+        self.at + u64::from(n) <= 8 * self.held as u64
     }
 
     /// The number of the first n bits, which are in the carry.
     #[inline(always)]
-    fn carried(&self, n: u32) -> u64
+    pub fn held_front(&self, n: u32) -> u64
         requires few { n ≤ 32 }
         requires there { n ≤ carried_of self.now }
         ensures { result ≡ number (take n (flow_bits self.now)) }
@@ -279,35 +273,21 @@ impl<S: Source> Inflow<S> {
         eight_of(rest) >> (self.at & 7) & ((1 << n) - 1)
     }
 
-    /// The number of the first n bits, if they are there, and not all in the carry.
-    #[inline(never)]
-    fn lent_front(&mut self, n: u32) -> Option<u64>
+    /// The number of the first n bits, if they are there.
+    #[inline(always)]
+    pub fn front(&mut self, n: u32) -> Option<u64>
         requires { n ≤ 32 }
         ensures some { IfSome result (λ value. ShowsFront n value self.old self.new) }
         ensures below { IfSome result (λ value. value < 2 ^ n) }
         ensures none { IfNone result (Lacks n self.old self.new) }
     {
+        if self.holds(n) {
+            return Some(self.held_front(n));
+        }
         if self.lent == 0 {
             return None;
         }
         self.bits().part(n)
-    }
-
-    /// Takes the number of the first n bits, if they are there.
-    #[inline(always)]
-    pub fn take(&mut self, n: u32) -> Option<u64>
-        requires { n ≤ 32 }
-        ensures some { IfSome result (λ value. TakesBits n value self.old self.new) }
-        ensures below { IfSome result (λ value. value < 2 ^ n) }
-        ensures none { IfNone result (Lacks n self.old self.new) }
-    {
-        match self.front(n) {
-            Some(value) => {
-                self.at += u64::from(n);
-                Some(value)
-            }
-            None => None,
-        }
     }
 
     /// Moves on by bits that are there.
@@ -320,6 +300,7 @@ impl<S: Source> Inflow<S> {
     }
 
     /// Asks the source for more bytes, since those that are there do not suffice: once, or less if some that it lends are not taken.
+    #[inline(never)]
     fn ask(&mut self) -> Result<(), Missing>
         requires { carried_of self.old < 32 }
         ensures asks { Asks self.old self.new result }
@@ -332,16 +313,18 @@ impl<S: Source> Inflow<S> {
             };
         }
         self.drop_read();
-        if self.lent > 0 {
-            return self.pull();
+        if self.lent == 0 {
+            if self.ended {
+                return Err(Missing::End);
+            }
+            if self.taken() >= self.stop() {
+                return Err(self.past());
+            }
+            if self.looks()? {
+                return Ok(());
+            }
         }
-        if self.ended {
-            return Err(Missing::End);
-        }
-        if self.taken() >= self.stop() {
-            return Err(self.past());
-        }
-        self.more()
+        self.pull()
     }
 
     /// Takes bytes that are lent and of which all bits are read. Those of the carry are dropped.
@@ -378,31 +361,34 @@ impl<S: Source> Inflow<S> {
         self.at -= 8 * whole as u64;
     }
 
-    /// Looks for bytes that are lent, and pulls some if the carry has room for all of them.
-    fn more(&mut self) -> Result<(), Missing>
+    /// Looks for bytes that are lent, and whether they are more than the carry has room for.
+    #[inline(always)]
+    fn looks(&mut self) -> Result<bool, Missing>
         requires few { carried_of self.old < 32 }
         requires low { self.old.at < 8 }
         requires none { self.old.lent ≡ 0 }
         requires some { taken_of self.old < stop_of self.old }
         requires going { self.old.ended ≡ false }
-        ensures asks { Asks self.old self.new result }
-        ensures fewer { OnOk result (to_ask self.new < to_ask self.old) }
+        ensures more { IfOk result (λ more. more ≡ true → KeepsFlow self.old self.new × (0 < self.new.lent)) }
+        ensures few { IfOk result (λ more. more ≡ false → LooksOn self.old self.new) }
+        ensures lost { OnErr result (LostFlow self.old self.new) }
     {
         match self.source.look() {
-            Ok(false) => return self.pull(),
             Ok(true) => {}
+            Ok(false) => return Ok(false),
             Err(SourceFailed) => return Err(Missing::Read),
         }
         let room = self.end.min(self.limit) - (self.before + self.held as u64);
         let lent = self.source.lend().len().min(room as usize);
         if lent < CARRY {
-            return self.pull();
+            return Ok(false);
         }
         self.lent = lent;
-        Ok(())
+        Ok(true)
     }
 
     /// Pulls bytes of the stream into the carry.
+    #[inline(always)]
     fn pull(&mut self) -> Result<(), Missing>
         requires few { carried_of self.old < 32 }
         requires low { self.old.at < 8 }
@@ -458,18 +444,18 @@ impl<S: Source> Inflow<S> {
     }
 
     /// Takes the number of the first n bits, and asks the source while they are not there.
-    #[cold]
-    #[inline(never)]
+    #[inline(always)]
     pub fn take_late(&mut self, n: u32) -> Result<u64, Missing>
         requires { n ≤ 32 }
         ensures takes { TakesLate n self.old self.new result }
         ensures below { IfOk result (λ value. value < 2 ^ n) }
     {
         loop {
-            match self.take(n) {
-                Some(value) => return Ok(value),
-                None => self.ask()?,
+            if let Some(value) = self.front(n) {
+                self.advance(u64::from(n));
+                return Ok(value);
             }
+            self.ask()?;
         }
     }
 

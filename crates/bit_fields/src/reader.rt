@@ -284,31 +284,30 @@ impl<S: Source> BitReader<S> {
         ensures stays { self.old.live ≡ true → OnErr result (self.new.position ≡ first) }
         ensures moves { OnOk result (self.new.position ≡ self.old.position + n) }
     {
-        if !self.live {
-            return Err(Fault::Failed);
+        if self.live && self.inflow.holds(n) {
+            let value = self.inflow.held_front(n);
+            self.inflow.advance(u64::from(n));
+            self.position += u64::from(n);
+            return Ok(value);
         }
-        match self.inflow.take(n) {
-            Some(value) => {
-                self.position += u64::from(n);
-                Ok(value)
-            }
-            None => self.late_part(n, first),
-        }
+        self.late_part(n, first)
     }
 
-    /// The same, if not all of the bits are there.
+    /// The same, also where the bits are not in the carry.
     #[cold]
     #[inline(never)]
     fn late_part(&mut self, n: u32, first: u64) -> Result<u64, Fault>
-        requires live { self.old.live ≡ true }
         requires some { 0 < n }
         requires few { n ≤ 32 }
         ensures takes { Takes (part_of first n) self.old result self.new }
         ensures memory { NeedsNoMemory result }
         ensures below { IfOk result (λ value. value < 2 ^ n) }
-        ensures stays { OnErr result (self.new.position ≡ first) }
+        ensures stays { self.old.live ≡ true → OnErr result (self.new.position ≡ first) }
         ensures moves { OnOk result (self.new.position ≡ self.old.position + n) }
     {
+        if !self.live {
+            return Err(Fault::Failed);
+        }
         match self.inflow.take_late(n) {
             Ok(value) => {
                 self.position += u64::from(n);
@@ -390,6 +389,7 @@ impl<S: Source> BitReader<S> {
     /// Reads a number of n bits, n from 1 to 32, the lowest bit first. Source: "Fixed Width Integers".
     ///
     /// Fewer bits are `Truncated` at the first bit of the field.
+    #[inline(always)]
     pub fn fixed(&mut self, n: u32) -> Result<u64, Fault>
         requires some { 0 < n }
         requires few { n ≤ 32 }
@@ -492,10 +492,13 @@ impl<S: Source> BitReader<S> {
         ensures memory { NeedsNoMemory result }
         ensures stays { OnErr result (self.new.position ≡ first) }
     {
-        if let Some(0) = self.inflow.front(most) {
-            self.inflow.advance(u64::from(most));
-            self.position += u64::from(most);
-            return Ok(most);
+        let count = self.inflow.there().min(u64::from(most)) as u32;
+        if count > 0 {
+            if let Some(0) = self.inflow.front(count) {
+                self.inflow.advance(u64::from(count));
+                self.position += u64::from(count);
+                return Ok(count);
+            }
         }
         self.one_zero(first)?;
         Ok(1)
