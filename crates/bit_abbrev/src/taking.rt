@@ -64,26 +64,33 @@ fn last_of<'a>(bits: PlacedBits<'a>, op: HeldOp) -> Option<(u64, PlacedBits<'a>)
     Some((value, bits.after(width)))
 }
 
-/// Takes at most so many fields of a single operand where fewer than 64 bits are there: how many, and the bits behind them.
+/// How many bits the field of a single operand has at least.
+fn least_width(op: HeldOp) -> u64 {
+    match op {
+        HeldOp::Literal(_) => 0,
+        HeldOp::Fixed(width) | HeldOp::Vbr(width) => u64::from(width),
+        _ => 6,
+    }
+}
+
+/// Takes so many fields of a single operand where fewer than 64 bits are there, and returns how many bits they have; or declines them.
 #[cold]
 #[inline(never)]
-fn take_last<'a, V: ValueTaker>(
-    from: PlacedBits<'a>,
-    most: u64,
+fn take_last<V: ValueTaker>(
+    from: PlacedBits<'_>,
+    count: u64,
     op: HeldOp,
     values: &mut V,
-) -> Result<(u64, PlacedBits<'a>), NotTaken> {
-    let mut bits = from;
-    let mut left = most;
-    while left > 0 {
-        let Some((value, after)) = last_of(bits, op) else {
-            break;
-        };
-        values.take(value)?;
-        bits = after;
-        left -= 1;
+) -> Option<u64> {
+    if from.has(64) || count.min(64) * least_width(op) > from.len() {
+        return None;
     }
-    Ok((most - left, bits))
+    let mut bits = from;
+    for _ in 0..count {
+        let (value, after) = last_of(bits, op)?;
+        bits = take_value(after, value, values)?;
+    }
+    Some(bits.position() - from.position())
 }
 
 /// Takes at most so many fields of a single operand, those that are there: how many, and the bits behind them. What the value sink need
@@ -99,8 +106,7 @@ fn take_each<'a, V: ValueTaker>(
     let mut left = most;
     while left > 0 && !values.pass(0) {
         if !bits.has(64) {
-            let (last, after) = take_last(bits, left, op, values)?;
-            return Ok((most - left + last, after));
+            return Ok((most - left, bits));
         }
         let Some((value, after)) = value_of(bits, op, 0) else {
             return Ok((most - left, bits));
@@ -141,16 +147,6 @@ pub(crate) fn take_some<'a, V: ValueTaker>(
     }
 }
 
-/// How many bits the field of a single operand has at least.
-#[inline(always)]
-fn least_width(op: HeldOp) -> u64 {
-    match op {
-        HeldOp::Literal(_) => 0,
-        HeldOp::Fixed(width) | HeldOp::Vbr(width) => u64::from(width),
-        _ => 6,
-    }
-}
-
 /// Takes so many fields, or declines them.
 #[inline(always)]
 fn take_all<'a, V: ValueTaker>(
@@ -159,18 +155,17 @@ fn take_all<'a, V: ValueTaker>(
     op: HeldOp,
     values: &mut V,
 ) -> Option<PlacedBits<'a>> {
-    if count.min(MOST_SKIPPED) * least_width(op) > bits.len() {
-        return None;
-    }
     let taken = match op {
         HeldOp::Fixed(0) | HeldOp::Vbr(0) => return None,
         HeldOp::Vbr(6) => take_each(bits, count, HeldOp::Vbr(6), values),
         op => take_some(bits, count, op, values),
     };
-    match taken {
-        Ok((some, after)) if some == count => Some(after),
-        _ => None,
+    let (some, after) = taken.ok()?;
+    if some < count {
+        let len = take_last(after, count - some, op, values)?;
+        return Some(after.after(len));
     }
+    Some(after)
 }
 
 /// Takes the value of a single operand, if its field is there.
