@@ -487,25 +487,26 @@ impl<'a> BlockDefinitions<'a> {
 
     /// Makes the plan of the definition with an abbreviation id from 4 on, and returns whether it passes over records and was not there.
     #[inline(never)]
-    pub fn plan(&mut self, id: u64) -> bool {
+    pub fn plan(&mut self, id: u64) -> Result<bool, AllocError> {
         let index = (id - 4) as usize;
         if index >= self.most_plans() {
-            return false;
+            return Ok(false);
         }
         if let Some(plan) = self.plans().get(index) {
             if !plan.is_unmade() {
-                return false;
+                return Ok(false);
             }
         }
         let all = self.in_force();
         let Some(head) = all.head(id) else {
-            return false;
+            return Ok(false);
         };
         if head.layout == Layout::Unlawful || head.len as usize == LONG {
-            return false;
+            return Ok(false);
         }
         let plan = Plan::of(all.ops(id, head));
-        self.note(index, plan).is_ok() && !plan.is_odd()
+        self.note(index, plan)?;
+        Ok(!plan.is_odd())
     }
 
     /// Notes the plan of the definition at an index.

@@ -174,12 +174,12 @@ impl<S: Source, V: ValueKeeper> EventFinder<S, V> {
     }
 
     /// Passes over the next records of the innermost block, at most `most`, and returns how many they are.
-    fn pass_records(&mut self, most: u64) -> u64 {
+    fn pass_records(&mut self, most: u64) -> Result<u64, Fault> {
         let Some(frame) = self.machine.frames.last() else {
-            return 0;
+            return Ok(0);
         };
         if !frame.is_plain() {
-            return 0;
+            return Ok(0);
         }
         let room = self.machine.room();
         let next = Coming {
@@ -192,14 +192,14 @@ impl<S: Source, V: ValueKeeper> EventFinder<S, V> {
         let mut passing = Passing { left: most };
         let definitions = BlockDefinitions::of(&mut self.machine.definitions, frame.marks);
         let Ok(run) = pass_records(next, definitions, &mut passing) else {
-            return 0;
+            return Err(self.reader.fail(Fault::Memory));
         };
         if passing.left < most {
             self.machine.used += room - run.room;
             self.reader.catch_up(run.after - first);
             self.forget(run.after);
         }
-        most - passing.left
+        Ok(most - passing.left)
     }
 
     /// Passes over the next events, at most `most`, and returns how many they are: fewer only if the whole input is accepted. It fails
@@ -207,7 +207,7 @@ impl<S: Source, V: ValueKeeper> EventFinder<S, V> {
     pub fn pass(&mut self, most: u64) -> Result<u64, Fault> {
         let mut left = most;
         while left > 0 {
-            left -= self.pass_records(left);
+            left -= self.pass_records(left)?;
             if left > 0 {
                 if self.record(&mut ValueCount::new()).is_none() {
                     self.find()?;

@@ -11,6 +11,10 @@ use std::alloc::{AllocError, Global};
 /// How many values may come before those of a buffered record, so that all can be counted.
 const MOST_BEFORE: u64 = 1 << 63;
 
+/// How many values a record has at most that is taken in place at once. The reader takes a longer one in runs, and only once if it goes on
+/// behind the bits that are there.
+const MOST_AT_ONCE: u64 = 1 << 16;
+
 /// How many bits must be there for a step that is no record: more than 64 after the longest beginning of a block, which has fields of
 /// 32, 8, 4, 31 and 32 bits.
 const STEP: u64 = 192;
@@ -231,10 +235,15 @@ impl Machine {
         }
     }
 
-    /// Takes a record of the innermost block by bits that are there, and returns it without its values. These come after the earlier
-    /// values; if it returns `None`, some may have been added.
+    /// Takes a record of the innermost block, of at most so many values, by bits that are there, and returns it without its values. These
+    /// come after the earlier values; if it returns `None`, some may have been added.
     #[inline(always)]
-    fn take<V: ValueTaker>(&mut self, bits: PlacedBits<'_>, values: &mut V) -> Option<RecordHead> {
+    fn take<V: ValueTaker>(
+        &mut self,
+        bits: PlacedBits<'_>,
+        most: u64,
+        values: &mut V,
+    ) -> Option<RecordHead> {
         let frame = self.frames.last()?;
         let before = values.count();
         let width = u32::from(frame.head.width);
@@ -247,7 +256,7 @@ impl Machine {
         }
         let fields = bits.after(u64::from(width));
         let definitions = self.definitions.in_force(frame.marks);
-        let taken = take_record(fields, &definitions, id, self.room(), values)?;
+        let taken = take_record(fields, &definitions, id, most, values)?;
         self.used += values.count() - before;
         Some(RecordHead {
             abbrev: id as u32,
@@ -267,7 +276,7 @@ impl Machine {
         if !self.is_plain() {
             return None;
         }
-        self.take(bits, values)
+        self.take(bits, self.room(), values)
     }
 
     /// The same in a BLOCKINFO block. The earlier values are dropped.
@@ -280,7 +289,7 @@ impl Machine {
     ) -> Option<RecordHead> {
         values.clear();
         let used = self.used;
-        let head = self.take(bits, values)?;
+        let head = self.take(bits, self.room().min(MOST_AT_ONCE), values)?;
         let frame = self.frames.last_mut()?;
         if frame.describe(head.code, values.first).is_err() {
             self.used = used;
@@ -289,7 +298,7 @@ impl Machine {
         Some(head)
     }
 
-    /// Takes a record of the innermost block, of any kind, by bits that are there. The earlier values are dropped; if it returns `None`,
+    /// Takes a record of the innermost block, of any kind and not too long, by bits that are there. The earlier values are dropped; if it returns `None`,
     /// some may have been added.
     #[inline(always)]
     pub(crate) fn record<V: ValueTaker>(
@@ -299,7 +308,7 @@ impl Machine {
     ) -> Option<RecordHead> {
         if self.is_plain() {
             values.clear();
-            return self.take(bits, &mut values.taker);
+            return self.take(bits, self.room().min(MOST_AT_ONCE), &mut values.taker);
         }
         self.info_record(bits, values)
     }

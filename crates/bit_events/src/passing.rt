@@ -174,7 +174,7 @@ fn pass_planned<R: RunCounter>(
             return Ok(run);
         }
         let id = next.id();
-        if id == 3 || !definitions.plan(id) {
+        if id == 3 || !definitions.plan(id)? {
             return Ok(run);
         }
     }
