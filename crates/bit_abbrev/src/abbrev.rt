@@ -49,7 +49,7 @@ impl Model for Abbrev {
     ghost use Rattle.bit_grammar.specs.declared.op.Op.{Op};
     ghost use Rattle.bit_grammar.specs.Definition.{has_shape};
     ghost use Rattle.bit_grammar.specs.FormatDefinition.{Definable};
-            
+
     ghost Value = { List Op };
 
     ghost view = { λ definition. definition.ops.items };

@@ -211,11 +211,7 @@ fn long_op<'a>(bits: PlacedBits<'a>, place: Place) -> Option<(Op, PlacedBits<'a>
 
 /// The same as `read_operands` in buffered bits, for `count` operands that are lawful: what is known behind them, and the bit after them.
 #[inline(always)]
-fn placed_operands(
-    from: PlacedBits<'_>,
-    count: u64,
-    ops: &mut Vec<HeldOp>,
-) -> Option<(bool, u64)> {
+fn placed_operands(from: PlacedBits<'_>, count: u64, ops: &mut Vec<HeldOp>) -> Option<(bool, u64)> {
     let mut bits = from;
     let mut place = Place::First;
     let mut has_odd = false;

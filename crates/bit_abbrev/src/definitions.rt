@@ -516,6 +516,10 @@ impl<'a> BlockDefinitions<'a> {
             let list = &mut self.definitions.tables[marks.table as usize].list;
             return note_plan(&mut list.plans, marks.start as usize + index, plan);
         }
-        note_plan(&mut self.definitions.own.plans, marks.plans as usize + index, plan)
+        note_plan(
+            &mut self.definitions.own.plans,
+            marks.plans as usize + index,
+            plan,
+        )
     }
 }

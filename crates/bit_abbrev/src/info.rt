@@ -1,6 +1,5 @@
 //! The definitions for block ids, as a table of their own.
 
-
 use crate::Abbrev;
 use std::alloc::{AllocError, Global};
 use std::collections::BTreeMap;
@@ -15,9 +14,7 @@ pub struct InfoTable {
 }
 
 impl Model for InfoTable {
-
     ghost Value = { List (ℕ × List (List Op)) };
-
 
     ghost view = { λ table. table_shown table.lists.entries };
 }
@@ -28,8 +25,7 @@ fn add(
     alloc: Global,
     id: u32,
     abbrev: Abbrev,
-) -> Result<(), AllocError>
-{
+) -> Result<(), AllocError> {
     if let Some(list) = lists.get_mut(&id) {
         list.push(abbrev)?;
         return Ok(());
@@ -43,8 +39,7 @@ fn add(
 
 impl InfoTable {
     /// A table without definitions. It allocates nothing.
-    pub fn new(alloc: Global) -> InfoTable
-    {
+    pub fn new(alloc: Global) -> InfoTable {
         InfoTable {
             alloc,
             lists: BTreeMap::new(alloc),
@@ -52,8 +47,7 @@ impl InfoTable {
     }
 
     /// The definitions for a block id, possibly none.
-    pub fn for_block(&self, id: u32) -> &[Abbrev]
-    {
+    pub fn for_block(&self, id: u32) -> &[Abbrev] {
         match self.lists.get(&id) {
             Some(list) => list.as_slice(),
             None => &[],
@@ -61,8 +55,7 @@ impl InfoTable {
     }
 
     /// Adds a definition to those for a block id. If an allocation fails, it is dropped.
-    pub fn define(&mut self, id: u32, abbrev: Abbrev) -> Result<(), AllocError>
-    {
+    pub fn define(&mut self, id: u32, abbrev: Abbrev) -> Result<(), AllocError> {
         add(&mut self.lists, self.alloc, id, abbrev)
     }
 }

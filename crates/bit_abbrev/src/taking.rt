@@ -5,9 +5,7 @@ use crate::definitions::InForce;
 use crate::held_op::{HeldOp, great_value};
 use crate::layout::Layout;
 use crate::walk::value_of;
-use bit_fields::{
-    ChunkTops, ChunkWidth, FieldWidth, NotTaken, PlacedBits, ValueTaker, character,
-};
+use bit_fields::{ChunkTops, ChunkWidth, FieldWidth, NotTaken, PlacedBits, ValueTaker, character};
 
 /// How many fields of one width are passed over at once at most, so that their bits can be counted.
 const MOST_SKIPPED: u64 = 1 << 32;

@@ -468,7 +468,10 @@ impl<'d> Visitor<u8> for Planned<'d> {
     #[inline(always)]
     fn abbreviated(self, _cells: &mut [u8], next: Coming<'_>, id: u64) -> Option<Walked> {
         let plan = self.plans.get((id - 4) as usize)?;
-        Walked::of(plan.pass(next.bits.load().after(next.width), next.room), next)
+        Walked::of(
+            plan.pass(next.bits.load().after(next.width), next.room),
+            next,
+        )
     }
 }
 

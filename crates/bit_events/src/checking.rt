@@ -1,4 +1,3 @@
-
 use crate::folding::fold;
 use crate::gatherer::Gatherer;
 use crate::passing::{PassedRun, Uncounted, pass_records};
@@ -48,7 +47,11 @@ impl Gatherer for Nothing {
     }
 
     #[inline(always)]
-    fn pass(&mut self, next: Coming<'_>, definitions: BlockDefinitions<'_>) -> Result<PassedRun, AllocError> {
+    fn pass(
+        &mut self,
+        next: Coming<'_>,
+        definitions: BlockDefinitions<'_>,
+    ) -> Result<PassedRun, AllocError> {
         pass_records(next, definitions, &mut Uncounted)
     }
 
@@ -59,8 +62,7 @@ impl Gatherer for Nothing {
 }
 
 /// Whether an input is accepted: `Ok`, or the one refusal. It holds only the open blocks of the input.
-pub fn check<S: Source>(alloc: Global, source: S, limits: Limits) -> (Result<(), Fault>, S)
-{
+pub fn check<S: Source>(alloc: Global, source: S, limits: Limits) -> (Result<(), Fault>, S) {
     let (answer, source) = fold(alloc, source, limits, Nothing);
     match answer {
         Ok(_) => (Ok(()), source),
@@ -74,8 +76,7 @@ pub fn check_keeping<S: Source>(
     alloc: Global,
     source: S,
     limits: Limits,
-) -> (Result<Vec<u8>, Fault>, S)
-{
+) -> (Result<Vec<u8>, Fault>, S) {
     let (answer, source) = check(alloc, KeptSource::new(alloc, source), limits);
     let (kept, source) = source.into_parts();
     match (answer, kept) {

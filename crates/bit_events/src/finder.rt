@@ -1,6 +1,5 @@
 //! Finding the events of a stream, one at a time.
 
-
 use crate::event::{Event, RecordHead};
 use crate::folding::gather_rest;
 use crate::gatherer::Gatherer;
@@ -9,7 +8,8 @@ use crate::passing::{CountedRecord, RunCounter, pass_records};
 use crate::with_first::WithFirst;
 use bit_abbrev::{Abbrev, BlockDefinitions, Coming};
 use bit_fields::{
-    BitReader, Fault, Head, Limits, PackedValues, SliceSource, Source, ValueCount, ValueKeeper, ValueTaker,
+    BitReader, Fault, Head, Limits, PackedValues, SliceSource, Source, ValueCount, ValueKeeper,
+    ValueTaker,
 };
 use std::alloc::{AllocError, Global};
 use std::marker::Model;
@@ -37,7 +37,6 @@ pub struct EventFinder<S: Source, V: ValueKeeper> {
 }
 
 impl<S: Source, V: ValueKeeper> Model for EventFinder<S, V> {
-
     ghost Value = { Coming };
 
     ghost view = { λ e. coming_of e.over e.machine.limits e.head e.machine (V.kept e.values.taker) e.found
@@ -47,12 +46,14 @@ impl<S: Source, V: ValueKeeper> Model for EventFinder<S, V> {
 }
 
 impl<S: Source, V: ValueKeeper> EventFinder<S, V> {
-
     /// Begins the events of an input: reads its wrapper, if there is one, and the magic of its stream. It allocates nothing.
     ///
     /// It refuses an input that breaks there, as `BitReader::start` does, and returns its source.
-    pub fn start(alloc: Global, source: S, limits: Limits) -> Result<EventFinder<S, V>, (Fault, S)>
-    {
+    pub fn start(
+        alloc: Global,
+        source: S,
+        limits: Limits,
+    ) -> Result<EventFinder<S, V>, (Fault, S)> {
         // The cap of the limit is below 2^64 - 1, the end of a stream without a wrapper.
         let _bytes = limits.bytes();
         let (reader, head) = BitReader::start(source, limits)?;
@@ -71,32 +72,27 @@ impl<S: Source, V: ValueKeeper> EventFinder<S, V> {
     }
 
     /// The wrapper, if there is one, and the magic of the stream.
-    pub fn head(&self) -> &Head
-    {
+    pub fn head(&self) -> &Head {
         &self.head
     }
 
     /// Returns the source in its present state.
-    pub fn into_source(self) -> S
-    {
+    pub fn into_source(self) -> S {
         self.reader.into_source()
     }
 
     /// The bit after the last event, or after the head, counted from the first bit of the input. A call that fails leaves it.
-    pub fn position(&self) -> u64
-    {
+    pub fn position(&self) -> u64 {
         self.reached
     }
 
     /// The values of the last record; none before the first record.
-    pub fn values(&self) -> &V
-    {
+    pub fn values(&self) -> &V {
         &self.values.taker
     }
 
     /// Finds the next event and keeps it.
-    pub(crate) fn find(&mut self) -> Result<(), Fault>
-    {
+    pub(crate) fn find(&mut self) -> Result<(), Fault> {
         if self.over {
             return Ok(());
         }
@@ -133,8 +129,7 @@ impl<S: Source, V: ValueKeeper> EventFinder<S, V> {
     ///
     /// After a refusal the gatherer has all events before its bit, and after another fault the first of them. If a call of the
     /// gatherer failed, that was at the next event.
-    pub fn gather<G: Gatherer>(&mut self, gatherer: &mut G) -> Result<(), Fault>
-    {
+    pub fn gather<G: Gatherer>(&mut self, gatherer: &mut G) -> Result<(), Fault> {
         if self.over {
             return Ok(());
         }
@@ -230,8 +225,7 @@ impl<S: Source, V: ValueKeeper> EventFinder<S, V> {
 
     /// The last event, with these values lent, or `None` before the first event.
     #[inline(always)]
-    pub(crate) fn lend<'a, L: Drop>(&'a self, values: L) -> Option<Event<'a, L>>
-    {
+    pub(crate) fn lend<'a, L: Drop>(&'a self, values: L) -> Option<Event<'a, L>> {
         match &self.found {
             None => None,
             Some(found) => found.event(self.made.as_ref(), values),
@@ -240,16 +234,14 @@ impl<S: Source, V: ValueKeeper> EventFinder<S, V> {
 
     /// The last event.
     #[inline(always)]
-    fn event(&self) -> Option<Event<'_, &V>>
-    {
+    fn event(&self) -> Option<Event<'_, &V>> {
         self.lend(&self.values.taker)
     }
 
     /// Returns the next event, or `None` if the whole input is accepted, and then `None` at every later call.
     ///
     /// A refusal comes after the events of all that is complete and lawful before it.
-    pub fn next(&mut self) -> Result<Option<Event<'_, &V>>, Fault>
-    {
+    pub fn next(&mut self) -> Result<Option<Event<'_, &V>>, Fault> {
         self.find()?;
         Ok(self.event())
     }

@@ -1,7 +1,5 @@
 //! Reading a whole input into a `Gatherer`.
 
-
-
 use crate::gatherer::Gatherer;
 use crate::machine::{Machine, Step};
 use crate::running::gather_records;
@@ -24,8 +22,7 @@ fn hand_on<G: Gatherer>(
     machine: &Machine,
     step: Step,
     values: &mut G::Values,
-) -> Result<(), AllocError>
-{
+) -> Result<(), AllocError> {
     match step {
         Step::Enter {
             id,
@@ -93,8 +90,7 @@ fn gather_next<S: Source, G: Gatherer>(
     machine: &mut Machine,
     gatherer: &mut G,
     values: &mut WithFirst<G::Values>,
-) -> Result<bool, Fault>
-{
+) -> Result<bool, Fault> {
     let Some(step) = machine.next_exact(reader, values)? else {
         return Ok(false);
     };
@@ -109,8 +105,7 @@ pub(crate) fn gather_rest<S: Source, G: Gatherer>(
     reader: &mut BitReader<S>,
     machine: &mut Machine,
     gatherer: &mut G,
-) -> Result<(), Fault>
-{
+) -> Result<(), Fault> {
     let mut values = WithFirst::new(gatherer.values());
     'events: loop {
         gather_buffered(reader, machine, gatherer, &mut values)?;
@@ -130,8 +125,7 @@ pub fn fold<S: Source, G: Gatherer + Drop>(
     source: S,
     limits: Limits,
     gatherer: G,
-) -> (Result<Folded<G>, Fault>, S)
-{
+) -> (Result<Folded<G>, Fault>, S) {
     // The cap of the limit is below 2^64 - 1, the end of a stream without a wrapper.
     let _bytes = limits.bytes();
     let (reader, head) = match BitReader::start(source, limits) {

@@ -13,7 +13,6 @@ use std::alloc::AllocError;
 
 /// Gathers the events of a stream, one after another.
 pub trait Gatherer {
-
     /// The value sink for the values of a record.
     type Values: ValueTaker + Drop;
 
@@ -51,7 +50,11 @@ pub trait Gatherer {
 
     /// Gathers records of the innermost block, which come next: as many as it likes.
     #[inline(always)]
-    fn pass(&mut self, next: Coming<'_>, _definitions: BlockDefinitions<'_>) -> Result<PassedRun, AllocError> {
+    fn pass(
+        &mut self,
+        next: Coming<'_>,
+        _definitions: BlockDefinitions<'_>,
+    ) -> Result<PassedRun, AllocError> {
         Ok(PassedRun::none(next))
     }
 

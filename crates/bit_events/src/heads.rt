@@ -1,10 +1,8 @@
-
 use crate::head::BlockHead;
 use bit_fields::{BitReader, Fault, PlacedBits, Reason, Source};
 
 /// Reads the id of a block.
-fn block_id<S: Source>(reader: &mut BitReader<S>) -> Result<u32, Fault>
-{
+fn block_id<S: Source>(reader: &mut BitReader<S>) -> Result<u32, Fault> {
     let first = reader.position();
     let id = reader.vbr(8)?;
     reader.judge(id < 1 << 32, Reason::BlockId, first)?;
@@ -12,14 +10,12 @@ fn block_id<S: Source>(reader: &mut BitReader<S>) -> Result<u32, Fault>
 }
 
 /// Whether abbreviation ids may have this many bits.
-fn is_width(width: u64) -> bool
-{
+fn is_width(width: u64) -> bool {
     1 <= width && width <= 32
 }
 
 /// Reads the width of the abbreviation ids in a block.
-fn new_width<S: Source>(reader: &mut BitReader<S>) -> Result<u8, Fault>
-{
+fn new_width<S: Source>(reader: &mut BitReader<S>) -> Result<u8, Fault> {
     let first = reader.position();
     let width = reader.vbr(4)?;
     reader.judge(is_width(width), Reason::AbbrevWidth, first)?;
@@ -27,8 +23,7 @@ fn new_width<S: Source>(reader: &mut BitReader<S>) -> Result<u8, Fault>
 }
 
 /// Reads what comes between a block's abbreviation id and its items. Source: "ENTER_SUBBLOCK Encoding".
-pub(crate) fn block_head<S: Source>(reader: &mut BitReader<S>) -> Result<BlockHead, Fault>
-{
+pub(crate) fn block_head<S: Source>(reader: &mut BitReader<S>) -> Result<BlockHead, Fault> {
     let id = block_id(reader)?;
     let width = new_width(reader)?;
     reader.pad()?;
@@ -69,8 +64,7 @@ pub(crate) fn placed_head(bits: PlacedBits<'_>) -> Option<BlockHead> {
 
 /// Whether a block that ends here has the right length.
 #[inline(always)]
-fn ends_at(head: BlockHead, after: u64) -> bool
-{
+fn ends_at(head: BlockHead, after: u64) -> bool {
     match head.body.checked_add(32 * u64::from(head.words)) {
         Some(end) => end == after,
         None => false,
@@ -82,8 +76,7 @@ fn ends_at(head: BlockHead, after: u64) -> bool
 pub(crate) fn end_of_block<S: Source>(
     reader: &mut BitReader<S>,
     head: BlockHead,
-) -> Result<u64, Fault>
-{
+) -> Result<u64, Fault> {
     reader.pad()?;
     let after = reader.position();
     reader.judge(ends_at(head, after), Reason::BlockLength, head.length_at)?;
@@ -104,8 +97,7 @@ pub(crate) fn placed_end(bits: PlacedBits<'_>, head: BlockHead) -> Option<u64> {
 /// Outside of all blocks: returns whether the stream has no byte left and its whole input is accepted.
 #[cold]
 #[inline(never)]
-fn shuts_outside<S: Source>(reader: &mut BitReader<S>) -> Result<bool, Fault>
-{
+fn shuts_outside<S: Source>(reader: &mut BitReader<S>) -> Result<bool, Fault> {
     // Here the position and the unread bits reach as far as the stream and the limit on bytes.
     let _position = reader.position();
     if !reader.at_end()? {
@@ -117,8 +109,7 @@ fn shuts_outside<S: Source>(reader: &mut BitReader<S>) -> Result<bool, Fault>
 
 /// The same if a block may be open: then the input has not ended.
 #[inline(always)]
-pub(crate) fn shuts<S: Source>(reader: &mut BitReader<S>, outside: bool) -> Result<bool, Fault>
-{
+pub(crate) fn shuts<S: Source>(reader: &mut BitReader<S>, outside: bool) -> Result<bool, Fault> {
     if !outside {
         return Ok(false);
     }

@@ -1,4 +1,3 @@
-
 use crate::event::RecordHead;
 use crate::frame::{Describes, Frame};
 use crate::head::BlockHead;
@@ -63,8 +62,7 @@ impl Step {
 
     /// The bit after the step.
     #[inline(always)]
-    pub(crate) fn after(self) -> u64
-    {
+    pub(crate) fn after(self) -> u64 {
         match self {
             Step::Enter { body, .. } => body,
             Step::Define { after, .. } => after,
@@ -176,7 +174,11 @@ impl Machine {
 
     /// Opens a block whose beginning is at `first`; the bits are those after its id.
     #[inline(always)]
-    fn open_placed(&mut self, bits: PlacedBits<'_>, first: u64) -> Result<Option<Step>, AllocError> {
+    fn open_placed(
+        &mut self,
+        bits: PlacedBits<'_>,
+        first: u64,
+    ) -> Result<Option<Step>, AllocError> {
         if !self.has_depth() {
             return Ok(None);
         }
@@ -332,8 +334,7 @@ impl Machine {
     }
 
     /// Drops the open blocks. The input is not read on.
-    pub(crate) fn drop_blocks(&mut self)
-    {
+    pub(crate) fn drop_blocks(&mut self) {
         self.frames.clear();
     }
 
@@ -441,8 +442,7 @@ impl Machine {
     }
 
     /// Whether no block is open.
-    pub(crate) fn is_outside(&self) -> bool
-    {
+    pub(crate) fn is_outside(&self) -> bool {
         self.frames.is_empty()
     }
 

@@ -65,8 +65,18 @@ fn hand_on<'a, R: RunCounter>(
     values: &[u64],
     counter: &mut R,
 ) -> Result<Option<Coming<'a>>, AllocError> {
-    let Coming { bits, width, room, .. } = next;
-    let Walked { at, len, code, count } = walked;
+    let Coming {
+        bits,
+        width,
+        room,
+        ..
+    } = next;
+    let Walked {
+        at,
+        len,
+        code,
+        count,
+    } = walked;
     let after = bits.after(u64::from(width) + len);
     let record = CountedRecord {
         id,

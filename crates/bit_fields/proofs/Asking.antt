@@ -291,7 +291,7 @@ copied_taken f i j l count copied shown is going low was free copied_is enough l
     let gone : IsSome i.to_come → known_bytes i.to_come ≡ take count gave.into ++ known_bytes l.to_come = λ k. same k ∙ (came j l count gave.into gave.gave (kept i.to_come j.to_come looked.bytes k).0).0 in
     let gone_len : IsSome i.to_come → length (known_bytes i.to_come) ≡ count + length (known_bytes l.to_come) = λ k. omega (arith, ap length (same k), (came j l count gave.into gave.gave (kept i.to_come j.to_come looked.bytes k).0).1) in
     let first : IsSome i.to_come → take count shown ≡ take count gave.into = λ k.
-        ap (take count) (sym (shown_front i.to_come shown front k)) ∙ take-take count (length shown) (known_bytes i.to_come) (omega (arith, gave.few, copied_is)) ∙ ap (take count) (gone k) ∙ take_at (take count gave.into) (known_bytes l.to_come) count (length-take-le count gave.into gave.gave.fits) in
+    ap (take count) (sym (shown_front i.to_come shown front k)) ∙ take-take count (length shown) (known_bytes i.to_come) (omega (arith, gave.few, copied_is)) ∙ ap (take count) (gone k) ∙ take_at (take count gave.into) (known_bytes l.to_come) count (length-take-le count gave.into gave.gave.fits) in
     let still : StillLent f.lent (f.lent - count) i l = λ k le. omega (arith, le, gone_len k) in
     let within : taken_of f + copied ≤ stop_of f = omega (arith, was.within (omega (arith, enough, gave.few, some)), enough) in
     record {
