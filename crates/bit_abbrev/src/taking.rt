@@ -156,6 +156,7 @@ fn take_all<'a, V: ValueTaker>(
     let taken = match op {
         HeldOp::Fixed(0) | HeldOp::Vbr(0) => return None,
         HeldOp::Vbr(6) => take_each(bits, count, HeldOp::Vbr(6), values),
+        op if count.min(MOST_SKIPPED) * least_width(op) > bits.len() => return None,
         op => take_some(bits, count, op, values),
     };
     let (some, after) = taken.ok()?;
