@@ -6,6 +6,14 @@ mod Ordered
 pub mod Table
 mod Tables
 mod Places
+mod PlacesHeld
+mod PlaceLayouts
+mod DefinitionLists
+mod InfoTables
+mod Uniting
+mod Sorting
+mod BlockMarks
+mod Growing
 pub mod Adding
 pub mod Taking
 pub mod Operands

@@ -5,6 +5,11 @@ pub mod Groups
 pub mod Heads
 pub mod HeldLists
 pub mod HeldOps
+pub mod HeldPlaces
+pub mod PlaceLayouts
+pub mod DefinitionLists
+pub mod InfoTables
+pub mod BlockMarks
 pub mod InForce
 pub mod Layouts
 pub mod Operands

@@ -14,6 +14,7 @@
 mod abbrev;
 mod bits;
 mod builder;
+pub mod compact;
 mod definition;
 mod few;
 mod finished;

@@ -1,0 +1,7 @@
+//! Definitions as the reading core will hold them, in few bytes: not used yet. The modules beside this one stay until it is.
+
+pub mod definitions;
+pub mod held_op;
+pub mod layout;
+pub mod list;
+pub mod table;
