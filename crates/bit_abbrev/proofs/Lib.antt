@@ -14,6 +14,7 @@ mod Uniting
 mod Sorting
 mod BlockMarks
 mod Growing
+mod CompactReading
 pub mod Adding
 pub mod Taking
 pub mod Operands

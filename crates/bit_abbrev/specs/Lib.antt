@@ -10,6 +10,8 @@ pub mod PlaceLayouts
 pub mod DefinitionLists
 pub mod InfoTables
 pub mod BlockMarks
+pub mod Growing
+pub mod CompactReading
 pub mod InForce
 pub mod Layouts
 pub mod Operands

@@ -59,8 +59,8 @@ fn used_with(run: Run, tables: u32, without: u32) -> u32
 #[derive(Drop)]
 pub struct Definitions {
     alloc: Global,
-    own: DefinitionList,
-    made: MadeTable,
+    pub(crate) own: DefinitionList,
+    pub(crate) made: MadeTable,
     tables: Vec<MadeTable>,
 }
 

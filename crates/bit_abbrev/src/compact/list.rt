@@ -1,6 +1,6 @@
 //! Definitions, one after another in a list.
 
-ghost use Rattle.std.specs.Prelude.{◌≡◌, ◌≤◌, ◌<◌, ◌-◌, ◌^◌, ◌++◌, [], List, length, take, IfErr, IfOk, OnOk, OnErr};
+ghost use Rattle.std.specs.Prelude.{◌≡◌, ◌≤◌, ◌<◌, ◌-◌, ◌^◌, ◌++◌, [], List, true, false, length, take, IfErr, IfOk, OnOk, OnErr};
 ghost use Rattle.std.specs.Option.{option_map};
 ghost use Rattle.bit_grammar.specs.declared.op.Op.{Op};
 ghost use Rattle.bit_abbrev.specs.declared.compact.held_op.HeldOp.{HeldOp};
@@ -20,6 +20,17 @@ pub struct Head {
     start: u32,
     len: u16,
     pub(crate) layout: Layout,
+}
+
+impl Head {
+    /// Whether records of the definition are walked over.
+    #[inline(always)]
+    pub fn is_even(&self) -> bool
+        ensures even { result ≡ true → IsEven self.now.layout }
+        ensures odd { result ≡ false → IsEven self.now.layout → ⊥ }
+    {
+        matches!(self.layout, Layout::Singles | Layout::Coded | Layout::List)
+    }
 }
 
 /// The operands of the definition with this head.
