@@ -1,5 +1,5 @@
 -- Definitions that are read behind others.
-use Rattle.std.proofs.Common.{◌≡◌, ℕ, Result, Ok, Err, OnErr, refl, ◌+◌, ◌-◌, ◌<◌, List, [], ◌∷◌, ◌++◌, length, take, drop, sym, ap, ◌∙◌, arith}
+use Rattle.std.proofs.Common.{◌≡◌, ℕ, Result, Ok, Err, OnErr, ◌+◌, ◌-◌, ◌<◌, List, [], ◌∷◌, length, take, drop, sym, ap, arith}
 use Rattle.std.proofs.lemmas.List.{append-nil, length-append, take_all, take_at}
 use Rattle.std.proofs.Math.Seq.{drop-append_seam}
 use Rattle.bit_grammar.specs.declared.op.Op.{Op}

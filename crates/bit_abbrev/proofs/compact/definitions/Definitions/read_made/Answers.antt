@@ -1,4 +1,4 @@
-use Rattle.std.proofs.Common.{◌≡◌, ◌-◌, List, Result, Ok, Err, OnErr, length, refl, sym, ap, subst, ◌∙◌}
+use Rattle.std.proofs.Common.{◌-◌, List, Result, Ok, Err, OnErr, length, refl, sym, ap, subst, ◌∙◌}
 use Rattle.bit_abbrev.specs.declared.compact.list.DefinitionList.{DefinitionList}
 use Rattle.bit_abbrev.specs.declared.compact.table.Group.{Group}
 use Rattle.bit_abbrev.specs.DefinitionLists.{OneMore}
