@@ -30,5 +30,6 @@ pub mod PassedRecords
 pub mod Singles
 pub mod FewValues
 pub mod Buffered
+mod PlacedDefinitions
 pub mod Missing
 pub mod HeldRecords

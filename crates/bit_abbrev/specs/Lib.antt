@@ -12,6 +12,7 @@ pub mod InfoTables
 pub mod BlockMarks
 pub mod Growing
 pub mod CompactReading
+pub mod PlacedDefinitions
 pub mod InForce
 pub mod Layouts
 pub mod Operands

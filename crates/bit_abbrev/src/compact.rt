@@ -5,4 +5,5 @@ pub mod definitions;
 pub mod held_op;
 pub mod layout;
 pub mod list;
+pub mod placed;
 pub mod table;
