@@ -2,8 +2,6 @@ use Rattle.std.proofs.Common.{rules, ◌≡◌, ◌<◌, ◌^◌, true, subst}
 use Rattle.bit_grammar.specs.Fields.{vbr}
 use Rattle.bit_grammar.specs.Definition.{fits, fixed_lawful, vbr_lawful}
 use Rattle.bit_grammar.specs.declared.op.Kind.TheVariants as kinds
-use Rattle.bit_grammar.specs.declared.op.Op.TheVariants.{Fixed, Vbr}
-use Rattle.bit_grammar.specs.FormatDefinition.{HasLawfulValue}
 use Rattle.bit_fields.specs.Buffered.{BufferedBits, Reads, beyond}
 use Rattle.bit_fields.specs.PlacedView.{placed}
 use Rattle.bit_abbrev.proofs.PlacedDefinitions.{literal_read, fixed_read, vbr_read}
