@@ -17,6 +17,7 @@ pub mod InForce
 pub mod Layouts
 pub mod Operands
 pub mod Plans
+pub mod NotedPlans
 pub mod Ready
 pub mod Scalars
 pub mod ShortOps

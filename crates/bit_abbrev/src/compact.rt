@@ -6,4 +6,5 @@ pub mod held_op;
 pub mod layout;
 pub mod list;
 pub mod placed;
+pub mod plans;
 pub mod table;

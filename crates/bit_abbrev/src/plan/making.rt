@@ -10,6 +10,9 @@ use crate::abbrev::Abbrev;
 use crate::plan::{Passes, Plan, Rest};
 use bit_grammar::Op;
 
+/// How many single operands a plan has that is not made: more than a plan has.
+const UNMADE: u8 = 255;
+
 /// Takes the first operands as long as they fit, and returns how many these are.
 fn take_front(passes: &mut Passes, ops: &[Op]) -> usize
     requires lawful { AllByRecursion HasLawfulValue ops.now }
@@ -57,6 +60,15 @@ impl Plan {
             width: 0,
             singles: 0,
         }
+    }
+
+    /// What stands in place of a plan that is not made.
+    pub(crate) fn unmade() -> Plan
+        ensures { result.rest ≡ Odd }
+    {
+        let mut plan = Plan::odd();
+        plan.singles = UNMADE;
+        plan
     }
 
     /// The plan of a definition.
