@@ -88,17 +88,17 @@ shows_lent f i j bytes count is was empty some looked front count_is b b_is g g_
     let t_is : take count bytes ≡ take (stop_of f - f.before) (f.carry ++ take count bytes) = sym (ap (λ (c : List ℕ). take (stop_of f - f.before) (c ++ take count bytes)) empty ∙ take_whole (stop_of f - f.before) (take count bytes) (omega (arith, len, room))) in
     subst (λ (x : BufferedBits). Shows f x g) (sym b_is) (shows_so f i j (take count bytes) (take count bytes) is looked (begins_front i.to_come bytes count few front) (omega (arith, len, count_is)) t_is g g_is)
 
+abbrev with_carry : Flow → Incoming → List ℕ → Flow
+with_carry f i carry = record f { carry = carry; incoming = i }
+
 -- bits in the carry, and behind them some that are lent
 pub shows_joined : (f : Flow) (i j : Incoming) (held count filled : ℕ) (old new : List ℕ) → f.incoming ≡ lending f.lent i → f.carry ≡ take held old → held ≤ length old → Looked i j → count ≤ f.lent → Copies i.to_come held count old new → filled ≡ min (stop_of f - f.before) (held + count) → (b : BufferedBits) → b ≡ bits_at (8 * f.before) f.at (take filled new)
     → (carry : List ℕ) → carry ≡ take held new → (g : Flow) → g ≡ record f { carry = carry; incoming = lending f.lent j } → Shows f b g
 shows_joined f i j held count filled old new is carry_is there looked few copies filled_is b b_is carry after g g_is =
     let same : carry ≡ f.carry = after ∙ carry_same held count old new copies.shown there copies.is ∙ sym carry_is in
     let t_is : take filled new ≡ take (stop_of f - f.before) (f.carry ++ copies.shown) = carry_shown (stop_of f - f.before) held count filled old new copies.shown there copies.long copies.is filled_is ∙ ap (λ (c : List ℕ). take (stop_of f - f.before) (c ++ copies.shown)) (sym carry_is) in
-    let g_same : g ≡ record f { incoming = lending f.lent j } = g_is ∙ ap (λ (c : List ℕ). with_carry c) same in
+    let g_same : g ≡ record f { incoming = lending f.lent j } = g_is ∙ ap (with_carry f (lending f.lent j)) same in
     subst (λ (x : BufferedBits). Shows f x g) (sym b_is) (shows_so f i j copies.shown (take filled new) is looked copies.front (omega (arith, copies.long, few)) t_is g g_same)
-  where
-    abbrev with_carry : List ℕ → Flow
-    with_carry c = record f { carry = c; incoming = lending f.lent j }
 
 -- a source that is looked at keeps the invariant; at its end it is not called
 pub looked_flow : (f : Flow) (i j : Incoming) → f.incoming ≡ lending f.lent i → IsFlow f → (f.lent ≡ 0 → j ≡ i) → (carry : List ℕ) → carry ≡ f.carry → IsFlow (record f { carry = carry; incoming = lending f.lent j })

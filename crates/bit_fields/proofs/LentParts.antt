@@ -57,7 +57,7 @@ no_answer : (fault : Fault) (x : ℕ × ℕ × List Bool) → ◌≡◌ {A = Res
 no_answer fault x e = cc
 
 -- the bits after a part
-part_passed : (n first value : ℕ) (a b : BufferedBits) → Reads (part_of first n) a value b → (n ≤ length a.bits) × (b ≡ beyond a n)
+pub part_passed : (n first value : ℕ) (a b : BufferedBits) → Reads (part_of first n) a value b → (n ≤ length a.bits) × (b ≡ beyond a n)
 part_passed n first value a b seen = elim (cases_lt (length a.bits) n) [
   | inl short ↦ absurd (no_answer (at Truncated first) (value, b.position, b.bits) (sym (part_short n first a.position a.bits short) ∙ seen))
   | inr there ↦
@@ -69,7 +69,7 @@ part_passed n first value a b seen = elim (cases_lt (length a.bits) n) [
 ]
 
 -- the number of those bits
-part_told : (n first value : ℕ) (a b : BufferedBits) → Reads (part_of first n) a value b → n ≤ length a.bits → value ≡ number (take n a.bits)
+pub part_told : (n first value : ℕ) (a b : BufferedBits) → Reads (part_of first n) a value b → n ≤ length a.bits → value ≡ number (take n a.bits)
 part_told n first value a b seen there =
     let whole : reading (part_of first n) a.position (a.bits ++ []) ≡ Ok (number (take n a.bits), a.position + n, drop n a.bits ++ []) = part_at n first a.position a.bits [] there in
     let read = ap (reading (part_of first n) a.position) (append-nil a.bits) in

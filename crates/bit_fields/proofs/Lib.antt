@@ -20,6 +20,7 @@ pub mod Cutting
 pub mod Short
 pub mod BufferedReads
 pub mod LentParts
+pub mod Asked
 pub mod Texts
 pub mod Unlike
 pub mod Standing

@@ -1,5 +1,5 @@
 -- The model of a bit reader, and what its calls take. A call that reads is described by a rule of the grammar.
-use Rattle.std.specs.Prelude.{◌≡◌, ℕ, ◌+◌, ◌*◌, ◌≤◌, Bool, true, false, ◌&&◌, if◌then◌else◌, List, [], ◌++◌, length, take, IsSome, Result, Ok, Err, nat_lt, ◌<◌, ◌-◌}
+use Rattle.std.specs.Prelude.{◌≡◌, ℕ, ◌+◌, ◌*◌, ◌≤◌, Bool, true, false, ◌&&◌, if◌then◌else◌, List, [], ◌++◌, length, take, get_or, IsSome, Result, Ok, Err, nat_lt, ◌<◌, ◌-◌}
 use Rattle.bit_grammar.specs.declared.reason.Reason.{Reason}
 use Rattle.bit_grammar.specs.declared.reason.Reason.TheVariants.{Truncated, TooLong}
 use Rattle.bit_grammar.specs.Grammar as grammar
@@ -142,6 +142,27 @@ pub record EndsAfter (end bits : ℕ) (old new : Reader) : Type 0 where
 -- how many bytes were taken from the source
 abbrev pub taken_by : Reader → ℕ
 taken_by r = r.extent.total - length (known_bytes r.incoming.to_come)
+
+-- a call in which the source fails takes bytes from it that end before this bit
+abbrev pub FailsWithin : {A : Type 0} → ℕ → Result A Fault → Reader → Type 0
+FailsWithin bit (Ok value) new = Unit {0}
+FailsWithin bit (Err Read) new = 8 * taken_by new < bit
+FailsWithin bit (Err fault) new = Unit {0}
+
+-- The source failed in a call that reads chunks of n bits, after `before` others of the number: the bytes taken from it end within
+-- the chunk that was read then, and each chunk before that one has its last bit set, so that the number goes on.
+pub record FailsInChunk (n before : ℕ) (old new : Reader) : Type 0 where
+  -- how many chunks the call had read
+  pub chunks : ℕ
+  pub few : (before + chunks) * (n - 1) < 64
+  pub within : 8 * taken_by new < old.position + n * chunks + n
+  pub go_on : TellsBytes old → (i : ℕ) → i < chunks → get_or old.left (n * i + (n - 1)) false ≡ true
+
+-- a call that reads chunks of n bits asks for bytes of one chunk at a time
+abbrev pub AsksByChunk : {A : Type 0} → (n before : ℕ) → Reader → Result A Fault → Reader → Type 0
+AsksByChunk n before old (Ok value) new = Unit {0}
+AsksByChunk n before old (Err Read) new = FailsInChunk n before old new
+AsksByChunk n before old (Err fault) new = Unit {0}
 
 -- the source that a reader returns: the bytes of which it read all bits are taken, if it had not failed
 pub record Returned (r : Reader) (now : Incoming) : Type 0 where

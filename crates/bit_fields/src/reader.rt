@@ -1,5 +1,5 @@
 ghost use Rattle.std.specs.Prelude.{◌≡◌, ◌+◌, ◌*◌, ◌-◌, ◌<◌, ◌≤◌, ◌^◌, ◌%◌, length, true, false, take, OnErr, OnOk, IfOk, IfErr, IfSome, MatchOption, ◌⊎◌};
-ghost use Rattle.bit_grammar.specs.Fields.{fixed, vbr, align32, chunks, zeros};
+ghost use Rattle.bit_grammar.specs.Fields.{fixed, vbr, align32, chunks, padding_length, zeros};
 ghost use Rattle.bit_grammar.specs.Terms.{chunk_limit};
 ghost use Rattle.bit_grammar.specs.Grammar.{at, test};
 ghost use Rattle.std.specs.Borrow.{sem};
@@ -8,7 +8,7 @@ ghost use Rattle.bit_fields.specs.Buffered.{ShowsBits, reader_further};
 ghost use Rattle.bit_fields.specs.Devices.{Fails};
 ghost use Rattle.bit_fields.specs.PlacedView.{placed};
 ghost use Rattle.bit_grammar.specs.Input.{version, offset, wrapper, any_bits, inner_magic};
-ghost use Rattle.bit_fields.specs.Reader.{Extent, EndsAfter, Returned, TellsBytes, Takes, Took, Why, IsOnly, NeedsNoMemory, within, told_by, failed_reader, stopped_at};
+ghost use Rattle.bit_fields.specs.Reader.{Extent, AsksByChunk, EndsAfter, FailsWithin, Returned, TellsBytes, Takes, Took, Why, IsOnly, NeedsNoMemory, within, told_by, failed_reader, stopped_at};
 ghost use Rattle.bit_fields.specs.Opening.{fresh, OpenedInput, Declines, Opens, wrapper_told};
 ghost use Rattle.bit_fields.specs.Ending.{reach_of, LooksForEnd, Closes, IsThrough};
 ghost use Rattle.bit_fields.specs.Inside.{gap_of, part_of, number_above, fault_of_missing, TookGap, TookZeros};
@@ -280,6 +280,7 @@ impl<S: Source> BitReader<S> {
         requires first { first ≤ self.old.position }
         ensures takes { Takes (part_of first n) self.old result self.new }
         ensures memory { NeedsNoMemory result }
+        ensures asks { FailsWithin (self.old.position + n) result self.new }
         ensures below { IfOk result (λ value. value < 2 ^ n) }
         ensures stays { self.old.live ≡ true → OnErr result (self.new.position ≡ first) }
         ensures moves { OnOk result (self.new.position ≡ self.old.position + n) }
@@ -305,6 +306,7 @@ impl<S: Source> BitReader<S> {
         requires few { n ≤ 32 }
         ensures takes { Takes (part_of first n) self.old result self.new }
         ensures memory { NeedsNoMemory result }
+        ensures asks { FailsWithin (self.old.position + n) result self.new }
         ensures below { IfOk result (λ value. value < 2 ^ n) }
         ensures stays { OnErr result (self.new.position ≡ first) }
         ensures moves { OnOk result (self.new.position ≡ self.old.position + n) }
@@ -389,13 +391,15 @@ impl<S: Source> BitReader<S> {
 
     /// Reads a number of n bits, n from 1 to 32, the lowest bit first. Source: "Fixed Width Integers".
     ///
-    /// Fewer bits are `Truncated` at the first bit of the field.
+    /// Fewer bits are `Truncated` at the first bit of the field. The source is asked only while bits of the field are
+    /// missing.
     pub fn fixed(&mut self, n: u32) -> Result<u64, Fault>
         requires some { 0 < n }
         requires few { n ≤ 32 }
         ensures takes { Takes (fixed n) self.old result self.new }
         ensures only { IsOnly (fixed n) self.old result self.new }
         ensures memory { NeedsNoMemory result }
+        ensures asks { FailsWithin (self.old.position + n) result self.new }
         ensures below { IfOk result (λ value. value < 2 ^ n) }
         ensures stays { OnErr result (self.new.position ≡ self.old.position) }
         ensures moves { OnOk result (self.new.position ≡ self.old.position + n) }
@@ -408,7 +412,8 @@ impl<S: Source> BitReader<S> {
     /// payload, the lowest first. Source: "Variable Width Integers".
     ///
     /// An incomplete chunk is `Truncated` at the first bit of the number. A complete chunk with a payload bit at place 64 or above,
-    /// or more chunks than 64 bits take, is `ValueTooWide` there.
+    /// or more chunks than 64 bits take, is `ValueTooWide` there. Bytes are asked for only while bits of a chunk are missing, and of
+    /// the next chunk only after a chunk that goes on.
     #[inline(always)]
     pub fn vbr(&mut self, n: u32) -> Result<u64, Fault>
         requires some { 2 ≤ n }
@@ -416,6 +421,7 @@ impl<S: Source> BitReader<S> {
         ensures takes { Takes (vbr n) self.old result self.new }
         ensures only { IsOnly (vbr n) self.old result self.new }
         ensures memory { NeedsNoMemory result }
+        ensures asks { AsksByChunk n 0 self.old result self.new }
         ensures stays { OnErr result (self.new.position ≡ self.old.position) }
     {
         let first = self.position;
@@ -437,6 +443,7 @@ impl<S: Source> BitReader<S> {
             (chunks (n.bits - 1) first (chunk_limit (n.bits - 1) - 1) (64 - (n.bits - 1)))) self.old result
             self.new }
         ensures memory { NeedsNoMemory result }
+        ensures asks { AsksByChunk n.bits 1 self.old result self.new }
         ensures stays { OnErr result (self.new.position ≡ first) }
     {
         let too_wide = Fault::Refused {
@@ -461,11 +468,13 @@ impl<S: Source> BitReader<S> {
 
     /// Reads zeros up to the next position that is a multiple of 32, possibly none. Source: "Abbreviation IDs", align32.
     ///
-    /// A one is `DirtyPadding` at that bit; fewer bits are `Truncated` at the first bit of the padding.
+    /// A one is `DirtyPadding` at that bit; fewer bits are `Truncated` at the first bit of the padding. Bytes are asked for only while
+    /// the next bit of the padding is missing.
     pub fn pad(&mut self) -> Result<(), Fault>
         ensures takes { Takes align32 self.old result self.new }
         ensures only { IsOnly align32 self.old result self.new }
         ensures memory { NeedsNoMemory result }
+        ensures asks { FailsWithin (self.old.position + padding_length self.old.position) result self.new }
         ensures stays { OnErr result (self.new.position ≡ self.old.position) }
         ensures aligned { OnOk result (self.new.position % 32 ≡ 0) }
     {
@@ -490,6 +499,7 @@ impl<S: Source> BitReader<S> {
         ensures takes { IfOk result (λ count. TookZeros first most count self.old self.new) }
         ensures misses { IfErr result (λ fault. Why (zeros first most) self.old fault self.new) }
         ensures memory { NeedsNoMemory result }
+        ensures asks { FailsWithin (self.old.position + most) result self.new }
         ensures stays { OnErr result (self.new.position ≡ first) }
     {
         if let Some(0) = self.inflow.bits().part(most) {
@@ -507,6 +517,7 @@ impl<S: Source> BitReader<S> {
         requires live { self.old.live ≡ true }
         ensures takes { Takes (zeros first 1) self.old result self.new }
         ensures memory { NeedsNoMemory result }
+        ensures asks { FailsWithin (self.old.position + 1) result self.new }
         ensures stays { OnErr result (self.new.position ≡ first) }
         ensures moves { OnOk result (self.new.position ≡ self.old.position + 1) }
     {
@@ -524,11 +535,12 @@ impl<S: Source> BitReader<S> {
 
     /// Returns whether the stream has no byte left. The position is a multiple of 8.
     ///
-    /// `TooLong` if the position is 8 times the limit on bytes and the stream goes on.
+    /// `TooLong` if the position is 8 times the limit on bytes and the stream goes on. The source is asked only if no bit is there.
     pub fn at_end(&mut self) -> Result<bool, Fault>
         requires { self.old.position % 8 ≡ 0 }
         ensures looks { LooksForEnd self.old result self.new }
         ensures through { IfOk result (λ end. end ≡ true → IsThrough self.new) }
+        ensures asks { FailsWithin (self.old.position + 1) result self.new }
         ensures stays { self.new.position ≡ self.old.position }
     {
         if !self.live {

@@ -17,3 +17,6 @@ returns-in-Some-clause-takes g c = took_as c.args.n c.args.first c.self.inside.p
 
 pub returns-in-None-clause-takes : goal.returns-in-None-clause-takes
 returns-in-None-clause-takes g c = nothing_then (part_of c.args.first c.args.n) c.args.self.now _ c.late_part.result c.late_part.new.self (looked_as c.self.inside.position c.self.inside.live c.self.inside.inflow c.take.new.self c.args.self.now c.if-not-self.false c.self.view_is c.in-None.ensures.none.looks) c.late_part.ensures.takes
+
+pub returns-in-None-clause-asks : goal.returns-in-None-clause-asks
+returns-in-None-clause-asks g c = rw (← c.self.view_is) c.late_part.ensures.asks

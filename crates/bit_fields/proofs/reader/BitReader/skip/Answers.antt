@@ -2,7 +2,7 @@ use Rattle.std.proofs.Common.{ap, arith}
 use Rattle.std.proofs.lemmas.Result.{err_from_is_err_and}
 use Rattle.bit_fields.specs.Reader.{Reader}
 use Rattle.bit_fields.proofs.Gap.{skipping_goes_on, gap_fails, gap_skipped}
-use Rattle.bit_fields.proofs.reader.BitReader.catch_up.Goals as goal
+use Rattle.bit_fields.proofs.reader.BitReader.skip.Goals as goal
 
 pub returns-in_err-count-clause-takes : goal.returns-in_err-count-clause-takes
 returns-in_err-count-clause-takes g c =

@@ -1,5 +1,5 @@
 use Rattle.bit_fields.proofs.Gap.{Skipping}
-use Rattle.bit_fields.proofs.reader.BitReader.catch_up.Given as goal
+use Rattle.bit_fields.proofs.reader.BitReader.skip.Given as goal
 
 abbrev pub invariant-loop-left : goal.invariant-loop-left
 invariant-loop-left g l = Skipping l.bits l.left l.fn.self l.self
