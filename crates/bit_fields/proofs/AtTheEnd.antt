@@ -1,16 +1,18 @@
 -- The end of a stream, and of its input.
-use Rattle.std.proofs.Common.{◌≡◌, ℕ, ◌+◌, ◌*◌, ◌<◌, ◌≤◌, min, Bool, true, false, ltb, [], length, Result, Ok, Err, refl, sym, ap, ◌∙◌, subst, arith, inl, inr}
+use Rattle.std.proofs.Common.{◌≡◌, ℕ, ◌+◌, ◌*◌, ◌-◌, ◌/◌, ◌^◌, ◌<◌, ◌≤◌, min, Bool, true, false, ◌&&◌, ltb, [], length, Result, Ok, Err, refl, sym, ap, ◌∙◌, subst, arith, inl, inr}
 use Rattle.std.proofs.lemmas.Bool.{cases_lt, false≢true, le-ltb, lt-ltb, and_from, and_left, and_right}
 use Rattle.std.proofs.lemmas.List.{nil_from_length}
 use Rattle.bit_fields.specs.declared.fault.Fault.{Fault}
 use Rattle.bit_fields.specs.declared.inflow.Missing.TheVariants as missing
 use Rattle.bit_fields.specs.declared.inflow.Missing.{Missing}
+use Rattle.bit_grammar.specs.declared.reason.Reason.TheVariants.{TooLong, WrapperSize}
+use Rattle.bit_grammar.specs.Grammar.{at}
 use Rattle.bit_fields.specs.Devices.{known_bytes}
-use Rattle.bit_fields.specs.Inflow.{Flow, IsKnown, IsFlow, place_of, stop_of, flow_bits, total_of, budget_of, KeepsFlow, RunsOut, Waits}
-use Rattle.bit_fields.specs.Reader.{Reader, Extent, TellsBytes, is_cut, stopped_at}
+use Rattle.bit_fields.specs.Inflow.{Flow, IsKnown, IsFlow, place_of, stop_of, flow_bits, total_of, budget_of, KeepsFlow, RunsOut, Waits, Drained, Overran}
+use Rattle.bit_fields.specs.Reader.{Reader, Extent, TellsBytes, StopsReading, is_cut, stopped_at}
 use Rattle.bit_fields.specs.Inside.{fault_of_missing, reader_of, IsReader}
-use Rattle.bit_fields.specs.Ending.{stream_end, reach_of, Stays, LooksForEnd, IsThrough}
-use Rattle.bit_fields.proofs.InflowLaws.{Spends-none, left_ends}
+use Rattle.bit_fields.specs.Ending.{stream_end, reach_of, Stays, LooksForEnd, IsThrough, Closed, verdict}
+use Rattle.bit_fields.proofs.InflowLaws.{Spends-refl, Spends-none, left_ends}
 use Rattle.bit_fields.proofs.Parts.{cut_same}
 
 -- ---- where the unread bits end
@@ -95,3 +97,44 @@ looks_more was p count f g now view is flow lent live w = rw (← view, live) (
   stays_so p f g w.0,
   λ k. let some : 0 < length (flow_bits f) = omega (arith, w.3 k, w.1) in (omega (arith, reach_at p f (is live) flow lent k, some), some),
 )
+
+-- ---- closing
+
+through_at : (live : Bool) (p : ℕ) (f : Flow) (now : Reader) → reader_of live p f ≡ now → live ≡ true → IsThrough now → IsKnown f → p ≡ 8 * min f.end (total_of f)
+through_at live p f now view alive through k = (subst IsThrough (sym view) through) alive k
+
+-- the stream fills its wrapper, if it has one
+unlike_short : (p : ℕ) (f : Flow) → p ≡ 8 * min f.end (total_of f) → (f.end < 2 ^ 64 - 1 → f.end ≤ p / 8) → (ltb f.end (2 ^ 64 - 1) && ltb (total_of f) f.end) ≡ false
+unlike_short p f at filled = elim (cases_lt f.end (2 ^ 64 - 1)) [
+  | inl lt ↦ and_right (ltb f.end (2 ^ 64 - 1)) (ltb (total_of f) f.end) (le-ltb (total_of f) f.end (omega (arith, at, filled lt)))
+  | inr le ↦ and_left (ltb f.end (2 ^ 64 - 1)) (ltb (total_of f) f.end) (le-ltb f.end (2 ^ 64 - 1) le)
+]
+
+pub closed : (live : Bool) (p : ℕ) (f g : Flow) (now : Reader) → reader_of live p f ≡ now → live ≡ true → IsReader live p f → IsFlow f → IsThrough now → (f.end < 2 ^ 64 - 1 → f.end ≤ p / 8) → Drained f g → Closed now (reader_of false p g)
+closed live p f g now view alive is flow through filled d =
+    let here = through_at live p f now view alive through in
+    let place : p ≡ place_of f = is alive in
+    let reach : p ≤ 8 * stop_of f = omega (arith, place, flow.place, flow.begun) in
+    rw (← view, alive) (record {
+      stops = record { was_live = refl; failed = refl; goes_on = d.spends };
+      fills = record { within = omega (arith, reach); wrapped = λ lt. omega (arith, reach, filled lt) };
+      whole = λ k. rw (unlike_short p f (here k) filled, le-ltb f.limit (total_of f) (d.within k)) refl;
+      none = d.none;
+    })
+
+pub closes_past : (live : Bool) (p : ℕ) (f g : Flow) (now : Reader) → reader_of live p f ≡ now → live ≡ true → IsThrough now → (f.end < 2 ^ 64 - 1 → f.end ≤ p / 8) → Overran f g → StopsReading now (reader_of false p g) × (TellsBytes now → verdict now.extent ≡ Err (at TooLong (8 * g.limit)))
+closes_past live p f g now view alive through filled over =
+    let here = through_at live p f now view alive through in
+    rw (← view, alive) (
+      record { was_live = refl; failed = refl; goes_on = over.spends },
+      λ k. rw (unlike_short p f (here k) filled, lt-ltb f.limit (total_of f) (over.past k), over.limit) refl,
+    )
+
+-- the stream ends within its wrapper
+pub closes_short : (live : Bool) (p : ℕ) (f : Flow) (now : Reader) → reader_of live p f ≡ now → live ≡ true → IsThrough now → f.end < 2 ^ 64 - 1 → p / 8 < f.end → StopsReading now (reader_of false p f) × (TellsBytes now → verdict now.extent ≡ Err (at WrapperSize 96))
+closes_short live p f now view alive through wrapped short =
+    let here = through_at live p f now view alive through in
+    rw (← view, alive) (
+      record { was_live = refl; failed = refl; goes_on = Spends-none f.incoming (budget_of f) f.incoming (budget_of f) (Spends-refl f.incoming (budget_of f)) },
+      λ k. rw (and_from (ltb f.end (2 ^ 64 - 1)) (ltb (total_of f) f.end) (lt-ltb f.end (2 ^ 64 - 1) wrapped) (lt-ltb (total_of f) f.end (omega (arith, here k, short)))) refl,
+    )

@@ -572,6 +572,7 @@ impl<S: Source> BitReader<S> {
             return Err(Fault::Failed);
         }
         self.live = false;
+        self.inflow.is_flow();
         let end = self.inflow.end();
         if end < u64::MAX && self.position / 8 < end {
             return Err(Fault::Refused {
