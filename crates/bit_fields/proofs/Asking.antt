@@ -1,8 +1,8 @@
 -- A source that is asked for bytes.
-use Rattle.std.proofs.Common.{◌≡◌, ℕ, zero, suc, ◌+◌, ◌*◌, ◌-◌, ◌/◌, ◌%◌, ◌^◌, ◌<◌, ◌≤◌, min, Bool, true, false, cond, if◌then◌else◌, ltb, List, [], ◌∷◌, ◌++◌, length, take, drop, Option, Some, None, Result, Ok, Err, refl, sym, ap, ◌∙◌, subst, arith, append_assoc, take-take}
+use Rattle.std.proofs.Common.{◌≡◌, ℕ, zero, suc, ◌+◌, ◌*◌, ◌-◌, ◌/◌, ◌%◌, ◌^◌, ◌<◌, ◌≤◌, ◌⊎◌, min, Bool, true, false, cond, if◌then◌else◌, ltb, List, [], ◌∷◌, ◌++◌, length, take, drop, Option, Some, None, Result, Ok, Err, refl, sym, ap, ◌∙◌, subst, arith, append_assoc, take-take, inl, inr}
 use Rattle.std.specs.Prelude.{IsSome}
-use Rattle.std.proofs.lemmas.Bool.{false≢true, le-ltb, lt-ltb, and_right, and_left, and_from}
-use Rattle.std.proofs.lemmas.List.{append-nil, length-append, length-take-le, length-drop, take-append-drop, take-append-le, take_at, drop-take}
+use Rattle.std.proofs.lemmas.Bool.{cases_lt, false≢true, le-ltb, lt-ltb, and_right, and_left, and_from}
+use Rattle.std.proofs.lemmas.List.{append-nil, length-append, length-take, length-take-le, length-drop, take-append-drop, take-append-le, take_at, drop-take}
 use Rattle.std.proofs.Math.Seq.{take-append-add}
 use Rattle.std.specs.Io.KnownBytes.{IsAtEnd}
 use Rattle.bit_fields.specs.declared.inflow.Missing.{Missing}
@@ -36,24 +36,52 @@ not_true true never = absurd (never refl)
 not_true false never = refl
 
 -- a source that is at its end lends none
-pub going_so : (f : Flow) → IsFlow f → f.carry ≡ [] → 8 ≤ f.at → f.ended ≡ false
-going_so f was empty some = not_true f.ended (λ e. omega (arith, (was.ended e).2, was.place, some, ap length empty))
+pub going_so : (f : Flow) → IsFlow f → 0 < f.lent → f.ended ≡ false
+going_so f was some = not_true f.ended (λ e. omega (arith, (was.ended e).2, some))
+
+-- no byte behind the stream was taken
+pub none_over : (f : Flow) → IsFlow f → (f.before + length f.carry + f.lent < stop_of f) ⊎ (0 < f.lent) → f.over ≡ 0
+none_over f was (inl less) = elim (cases_lt 0 f.over) [ inl some ↦ absurd (omega (arith, (was.over some).0, (was.over some).1, less)) | inr none ↦ omega (arith, none) ]
+none_over f was (inr lent) = elim (cases_lt 0 f.over) [ inl some ↦ absurd (omega (arith, (was.over some).1, lent)) | inr none ↦ omega (arith, none) ]
+
+-- bytes that are lent, of which all bits are read, so many at least
+pub read_lent : (f : Flow) (held : ℕ) → IsFlow f → length f.carry ≡ held → 8 * held + 8 ≤ f.at → (f.at / 8 - held ≤ f.lent) × (0 < f.at / 8 - held)
+read_lent f held was len some = (omega (arith, was.place, len, some), omega (arith, some))
 
 passed_still : (lent count most : ℕ) (i j : Incoming) → GaveUnseen i j most count → StillLent lent (lent - count) i j
 passed_still lent count most i j gave k le = omega (arith, le, (came i j count gave.into gave.gave k).1)
 
-pub passes : (f : Flow) (i j : Incoming) (most count : ℕ) → f.incoming ≡ lending f.lent i → IsFlow f → f.carry ≡ [] → f.ended ≡ false → most ≡ f.at / 8 → (count ≡ 0 → ⊥) → GaveUnseen i j most count
-    → (g : Flow) → g ≡ record f { incoming = lending (f.lent - count) j; lent = f.lent - count; at = f.at - 8 * count; before = f.before + count } → KeepsFlow f g × IsFlow g × (to_ask g < to_ask f)
-passes f i j most count is was empty going most_is some gave g g_is =
-    let none : length f.carry ≡ 0 = ap length empty in
+-- what is left after bytes of the carry and `count` lent ones
+abbrev behind : Flow → (held count : ℕ) → Incoming → Flow
+behind f held count j = record f { carry = []; incoming = lending (f.lent - count) j; lent = f.lent - count; at = f.at - 8 * (held + count); before = f.before + (held + count) }
+
+-- its invariant
+behind_flow : (f : Flow) (held count : ℕ) (j : Incoming) → IsFlow f → length f.carry ≡ held → 0 < count → 8 * (held + count) ≤ f.at → f.ended ≡ false → IsFlow (behind f held count j)
+behind_flow f held count j was len some read going =
+    let enough : count ≤ f.lent = omega (arith, read, was.place, len) in
+    let none : f.over ≡ 0 = none_over f was (inr (omega (arith, enough, some))) in
+    record {
+      held = omega arith;
+      within = omega (arith, was.within, len, enough);
+      place = omega (arith, was.place, len, enough, read);
+      over = λ more. absurd (omega (arith, more, none));
+      taken = omega (arith, was.within, len, enough, none);
+      limit = was.limit;
+      ended = λ e. absurd (false≢true (sym going ∙ e));
+    }
+
+pub passes : (f : Flow) (i j : Incoming) (held most count : ℕ) → f.incoming ≡ lending f.lent i → IsFlow f → length f.carry ≡ held → 8 * held + 8 ≤ f.at → most ≡ f.at / 8 - held → (count ≡ 0 → ⊥) → GaveUnseen i j most count
+    → (g : Flow) → g ≡ record f { carry = []; incoming = lending (f.lent - count) j; lent = f.lent - count; at = f.at - 8 * (held + count); before = f.before + (held + count) } → KeepsFlow f g × IsFlow g × (to_ask g < to_ask f)
+passes f i j held most count is was len low most_is some gave g g_is =
     let few : count ≤ most = gave.few in
-    let read : 8 * count ≤ f.at = omega (arith, few, most_is) in
-    let begun : f.before + count ≤ stop_of f = omega (arith, read, was.place, was.begun) in
-    let enough : count ≤ f.lent = omega (arith, read, was.place, none) in
-    let one : 1 ≤ count = omega (arith, some) in
+    let one : 0 < count = omega (arith, some) in
+    let read : 8 * (held + count) ≤ f.at = omega (arith, few, most_is, low) in
+    let enough : count ≤ f.lent = omega (arith, read, was.place, len) in
+    let going = going_so f was (omega (arith, enough, one)) in
+    let none : f.over ≡ 0 = none_over f was (inr (omega (arith, enough, one))) in
     let still = passed_still f.lent count most i j gave in
-    let after : ℕ = f.limit + 1 - (f.before + count + length f.carry) in
-    let paid : Spends i (f.limit + 1 - taken_of f) j after = gave_spends i j count gave.into (f.limit + 1 - taken_of f) after gave.gave (omega (arith, begun, none, was.limit)) (omega (arith, begun, none, one)) in
+    let after : ℕ = f.limit + 1 - (f.before + (held + count) + 0 + f.over) in
+    let paid : Spends i (f.limit + 1 - taken_of f) j after = gave_spends i j count gave.into (f.limit + 1 - taken_of f) after gave.gave (omega (arith, was.within, len, enough, none)) (omega (arith, was.within, len, enough, none, one)) in
     rw g_is (
       record {
         end = refl;
@@ -61,102 +89,76 @@ passes f i j most count is was empty going most_is some gave g g_is =
         place = omega (arith, read);
         spends = rw (going, is) (spends_lent i j f.lent (f.lent - count) (f.limit + 1 - taken_of f) after paid still);
         left = λ k.
-            let all : f.carry ++ known_bytes f.incoming.to_come ≡ take count gave.into ++ known_bytes j.to_come = ap (λ (c : List ℕ). c ++ known_bytes f.incoming.to_come) empty ∙ bytes_so f i is k ∙ (came i j count gave.into gave.gave (lent_known f.lent i (known_so f i is k)).0).0 in
-            let rest : f.carry ++ known_bytes (lending (f.lent - count) j).to_come ≡ known_bytes j.to_come = ap (λ (c : List ℕ). c ++ known_bytes (lending (f.lent - count) j).to_come) empty ∙ lent_after f.lent (f.lent - count) i j still (known_so f i is k) in
-            ap (λ (b : List ℕ). drop (f.at - 8 * count) (bits_of_bytes (take (stop_of f - (f.before + count)) b))) rest
-            ∙ moved_bits (take count gave.into) (f.carry ++ known_bytes f.incoming.to_come) (known_bytes j.to_come) (stop_of f) f.before f.at count (length-take-le count gave.into gave.gave.fits) all (omega (arith, begun)) read;
-        total = λ k. omega (arith, ap length (bytes_so f i is k), ap length (lent_after f.lent (f.lent - count) i j still (known_so f i is k)), (came i j count gave.into gave.gave (lent_known f.lent i (known_so f i is k)).0).1);
+            let given : known_bytes f.incoming.to_come ≡ take count gave.into ++ known_bytes j.to_come = bytes_so f i is k ∙ (came i j count gave.into gave.gave (lent_known f.lent i (known_so f i is k)).0).0 in
+            let all : f.carry ++ known_bytes f.incoming.to_come ≡ (f.carry ++ take count gave.into) ++ known_bytes j.to_come = ap (λ (b : List ℕ). f.carry ++ b) given ∙ sym (append_assoc f.carry (take count gave.into) (known_bytes j.to_come)) in
+            let gone : length (f.carry ++ take count gave.into) ≡ held + count = omega (arith, length-append f.carry (take count gave.into), length-take-le count gave.into gave.gave.fits, len) in
+            let rest : known_bytes (lending (f.lent - count) j).to_come ≡ known_bytes j.to_come = lent_after f.lent (f.lent - count) i j still (known_so f i is k) in
+            ap (λ (b : List ℕ). drop (f.at - 8 * (held + count)) (bits_of_bytes (take (stop_of f - (f.before + (held + count))) b))) rest
+            ∙ moved_bits (f.carry ++ take count gave.into) (f.carry ++ known_bytes f.incoming.to_come) (known_bytes j.to_come) (stop_of f) f.before f.at (held + count) gone all (omega (arith, was.within, len, enough)) read;
+        total = λ k. omega (arith, len, ap length (bytes_so f i is k), ap length (lent_after f.lent (f.lent - count) i j still (known_so f i is k)), (came i j count gave.into gave.gave (lent_known f.lent i (known_so f i is k)).0).1);
       },
-      record {
-        held = was.held;
-        begun = begun;
-        place = omega (arith, read, was.place, none, enough, begun);
-        carried = λ more. absurd (omega (arith, more, none));
-        within = λ more. omega (arith, was.within (omega (arith, more)), enough);
-        taken = omega (arith, begun, none);
-        limit = was.limit;
-        ended = λ e. absurd (false≢true (sym going ∙ e));
-      },
-      omega (arith, one, begun, none),
+      behind_flow f held count j was len one read going,
+      omega (arith, one, was.within, len, enough, none),
     )
 
 -- the source lent them, and does not give them: its bytes are not known
-pub passes_unseen : (f : Flow) (i j : Incoming) (most count : ℕ) → f.incoming ≡ lending f.lent i → IsFlow f → f.carry ≡ [] → f.ended ≡ false → most ≡ f.at / 8 → 8 ≤ f.at → count ≡ 0 → GaveUnseen i j most count
-    → (g : Flow) → g ≡ record f { incoming = lending (f.lent - most) j; lent = f.lent - most; at = f.at - 8 * most; before = f.before + most } → KeepsFlow f g × IsFlow g × (to_ask g < to_ask f)
-passes_unseen f i j most count is was empty going most_is low zero_given gave g g_is =
-    let none : length f.carry ≡ 0 = ap length empty in
-    let read : 8 * most ≤ f.at = omega (arith, most_is) in
-    let one : 1 ≤ most = omega (arith, most_is, low) in
-    let begun : f.before + most ≤ stop_of f = omega (arith, read, was.place, was.begun) in
-    let enough : most ≤ f.lent = omega (arith, read, was.place, none) in
+pub passes_unseen : (f : Flow) (i j : Incoming) (held most count : ℕ) → f.incoming ≡ lending f.lent i → IsFlow f → length f.carry ≡ held → 8 * held + 8 ≤ f.at → most ≡ f.at / 8 - held → count ≡ 0 → GaveUnseen i j most count
+    → (g : Flow) → g ≡ record f { carry = []; incoming = lending (f.lent - most) j; lent = f.lent - most; at = f.at - 8 * (held + most); before = f.before + (held + most) } → KeepsFlow f g × IsFlow g × (to_ask g < to_ask f)
+passes_unseen f i j held most count is was len low most_is zero_given gave g g_is =
+    let one : 0 < most = omega (arith, most_is, low) in
+    let read : 8 * (held + most) ≤ f.at = omega (arith, most_is, low) in
+    let enough : most ≤ f.lent = omega (arith, read, was.place, len) in
+    let going = going_so f was (omega (arith, enough, one)) in
+    let none : f.over ≡ 0 = none_over f was (inr (omega (arith, enough, one))) in
     let given : Gave i j 0 gave.into = subst (λ (n : ℕ). Gave i j n gave.into) zero_given gave.gave in
     let end : length (known_bytes j.to_come) ≡ 0 = ap length (at_end j.to_come (given.end refl gave.some)) in
     let not_known : IsKnown f → ⊥ = λ k. let t = lent_known f.lent i (known_so f i is k) in omega (arith, t.1, (came i j 0 gave.into given t.0).1, end, one, enough) in
     let still : StillLent f.lent (f.lent - most) i j = λ k le. omega (arith, le, (came i j 0 gave.into given k).1, end) in
-    let after : ℕ = f.limit + 1 - (f.before + most + length f.carry) in
+    let after : ℕ = f.limit + 1 - (f.before + (held + most) + 0 + f.over) in
     rw g_is (
       record {
         end = refl;
         limit = refl;
         place = omega (arith, read);
-        spends = rw (going, is) (spends_lent i j f.lent (f.lent - most) (f.limit + 1 - taken_of f) after (gave_spends i j 0 gave.into (f.limit + 1 - taken_of f) after given (omega (arith, one)) (omega (arith, begun, none, one, was.limit))) still);
+        spends = rw (going, is) (spends_lent i j f.lent (f.lent - most) (f.limit + 1 - taken_of f) after (gave_spends i j 0 gave.into (f.limit + 1 - taken_of f) after given (omega (arith, len)) (omega (arith, was.within, len, enough, none, one))) still);
         left = λ k. absurd (not_known k);
         total = λ k. absurd (not_known k);
       },
-      record {
-        held = was.held;
-        begun = begun;
-        place = omega (arith, read, was.place, none, enough, begun);
-        carried = λ more. absurd (omega (arith, more, none));
-        within = λ more. omega (arith, was.within (omega (arith, more)), enough);
-        taken = omega (arith, begun, none);
-        limit = was.limit;
-        ended = λ e. absurd (false≢true (sym going ∙ e));
-      },
-      omega (arith, one, begun, none),
+      behind_flow f held most j was len one read going,
+      omega (arith, one, was.within, len, enough, none),
     )
 
 -- ---- the source fails
 
 pub same_flow : (f : Flow) (j : Incoming) → IsFlow f → f.ended ≡ false → IsFlow (record f { incoming = j })
-same_flow f j was going = record {
-  held = was.held;
-  begun = was.begun;
-  place = was.place;
-  carried = was.carried;
-  within = was.within;
-  taken = was.taken;
-  limit = was.limit;
-  ended = λ e. absurd (false≢true (sym going ∙ e));
-}
+same_flow f j was going = record { held = was.held; within = was.within; place = was.place; over = was.over; taken = was.taken; limit = was.limit; ended = λ e. absurd (false≢true (sym going ∙ e)) }
 
-pub lost : (f : Flow) (i j : Incoming) → f.incoming ≡ lending f.lent i → IsFlow f → f.ended ≡ false → taken_of f ≤ stop_of f → GaveNone i j → LostFlow f (record f { incoming = lending f.lent j })
-lost f i j is was going within none =
+pub lost : (f : Flow) (i j : Incoming) → f.incoming ≡ lending f.lent i → IsFlow f → f.ended ≡ false → f.over ≡ 0 → GaveNone i j → LostFlow f (record f { incoming = lending f.lent j })
+lost f i j is was going no_over none =
     let still = looked_still f.lent i j none.bytes in
     record {
       place = refl;
-      fails = rw (going, is) (fails_lent i j f.lent f.lent (f.limit + 1 - taken_of f) 0 (none_fails i j (f.limit + 1 - taken_of f) none (omega (arith, within))) still);
+      fails = rw (going, is) (fails_lent i j f.lent f.lent (f.limit + 1 - taken_of f) 0 (none_fails i j (f.limit + 1 - taken_of f) none (omega (arith, was.within, no_over))) still);
       total = λ k. omega (arith, ap length (bytes_so f i is k), ap length (lent_after f.lent f.lent i j still (known_so f i is k)), ap length (kept i.to_come j.to_come none.bytes (lent_known f.lent i (known_so f i is k)).0).1);
-      given = omega (arith, within, was.begun);
+      given = omega (arith, no_over);
     }
 
 -- ---- bytes of the carry are dropped
 
--- the bytes of which all bits are read are in the carry
-pub whole_held : (f : Flow) → IsFlow f → (f.carry ≡ [] → f.at < 8) → f.at / 8 ≤ length f.carry
-whole_held f was low = enough f.carry refl
-  where
-    enough : (c : List ℕ) → f.carry ≡ c → f.at / 8 ≤ length f.carry
-    enough [] none = omega (arith, low none)
-    enough (b ∷ c) is = omega (arith, was.carried (omega (arith, ap length is)))
+-- the bytes of the carry that were moved to its front
+pub moved_front : (whole held : ℕ) (old post : List ℕ) → whole ≤ held → held ≤ whole + 8 → held ≤ length old → take (held - whole) (take 8 (drop whole old) ++ post) ≡ drop whole (take held old)
+moved_front whole held old post few near there =
+    let left : ℕ = held - whole in
+    let all : whole + left ≡ held = omega (arith, few) in
+    let len : left ≤ length (take 8 (drop whole old)) = omega (arith, length-take 8 (drop whole old), length-drop whole old, there, near) in
+    take-append-le left (take 8 (drop whole old)) post len ∙ take-take left 8 (drop whole old) (omega (arith, near)) ∙ sym (drop-take whole left old) ∙ ap (λ (n : ℕ). drop whole (take n old)) all
 
-pub drops : (f : Flow) (whole : ℕ) (rest : List ℕ) → IsFlow f → whole ≡ f.at / 8 → (f.carry ≡ [] → f.at < 8) → rest ≡ drop whole f.carry
+pub drops : (f : Flow) (held whole : ℕ) (rest : List ℕ) → IsFlow f → length f.carry ≡ held → whole ≡ f.at / 8 → f.at < 8 * held + 8 → rest ≡ drop whole f.carry
     → (g : Flow) → g ≡ record f { carry = rest; at = f.at - 8 * whole; before = f.before + whole } → Drops f g × IsFlow g
-drops f whole rest was whole_is low rest_is g g_is =
+drops f held whole rest was held_is whole_is low rest_is g g_is =
     let read : 8 * whole ≤ f.at = omega (arith, whole_is) in
-    let there : whole ≤ length f.carry = omega (arith, whole_is, whole_held f was low) in
+    let there : whole ≤ length f.carry = omega (arith, whole_is, low, held_is) in
     let len : length rest ≡ length f.carry - whole = ap length rest_is ∙ length-drop whole f.carry in
-    let begun : f.before + whole ≤ stop_of f = omega (arith, read, was.place, was.begun) in
     let known : List ℕ = known_bytes f.incoming.to_come in
     let parts : f.carry ++ known ≡ take whole f.carry ++ (rest ++ known) =
     ap (λ (c : List ℕ). c ++ known) (sym (take-append-drop whole f.carry)) ∙ append_assoc (take whole f.carry) (drop whole f.carry) known ∙ ap (λ (c : List ℕ). take whole f.carry ++ (c ++ known)) (sym rest_is) in
@@ -165,19 +167,19 @@ drops f whole rest was whole_is low rest_is g g_is =
         incoming = refl;
         lent = refl;
         low = omega (arith, whole_is);
+        carried = omega (arith, len, there, read);
         place = omega (arith, read);
         taken = omega (arith, len, there);
         end = refl;
         limit = refl;
         ended = refl;
-        left = moved_bits (take whole f.carry) (f.carry ++ known) (rest ++ known) (stop_of f) f.before f.at whole (length-take-le whole f.carry there) parts (omega (arith, begun)) read;
+        left = moved_bits (take whole f.carry) (f.carry ++ known) (rest ++ known) (stop_of f) f.before f.at whole (length-take-le whole f.carry there) parts (omega (arith, was.within, there)) read;
       },
       record {
         held = omega (arith, was.held, len);
-        begun = begun;
-        place = omega (arith, read, was.place, len, there, begun);
-        carried = λ more. omega (arith, was.carried (omega (arith, more, len)), len, there, read);
-        within = λ more. omega (arith, was.within more, len, there);
+        within = omega (arith, was.within, len, there);
+        place = omega (arith, read, was.place, len, there);
+        over = λ some. (omega (arith, (was.over some).0, len, there), (was.over some).1);
         taken = omega (arith, was.taken, len, there);
         limit = was.limit;
         ended = λ e. ((was.ended e).0, omega (arith, (was.ended e).1, len, there), (was.ended e).2);
@@ -186,7 +188,6 @@ drops f whole rest was whole_is low rest_is g g_is =
 
 pub dropped_so : (f g : Flow) → Drops f g → KeepsFlow f g × (carried_of g ≡ carried_of f)
 dropped_so f g d =
-    let stop : stop_of g ≡ stop_of f = omega (arith, d.end, d.limit) in
     let budget : budget_of f ≡ budget_of g = rw (d.ended, d.limit, d.taken) refl in (
       record {
         end = d.end;
@@ -196,7 +197,7 @@ dropped_so f g d =
         left = λ k. d.left;
         total = λ k. omega (arith, d.taken, ap (λ (i : Incoming). length (known_bytes i.to_come)) d.incoming);
       },
-      omega (arith, stop, d.taken, d.place),
+      d.carried,
     )
 
 -- ---- bytes are taken into the carry
@@ -204,10 +205,8 @@ dropped_so f g d =
 pub record Joins (f : Flow) (more : List ℕ) (lent : ℕ) (j : Incoming) : Type 0 where
   pub some : 0 < length more
   pub room : length f.carry + length more ≤ 64
-  pub low : f.at < 8
   pub within : taken_of f + length more ≤ stop_of f
-  pub lent_is : f.lent ≤ length more + lent
-  pub more_lent : 0 < lent → lent + length more ≤ f.lent
+  pub lent_is : lent ≡ f.lent - length more
   pub going : f.ended ≡ false
   pub spends : Spends f.incoming (f.limit + 1 - taken_of f) (lending lent j) (f.limit + 1 - (taken_of f + length more))
   pub bytes : IsKnown f → known_bytes f.incoming.to_come ≡ more ++ known_bytes (lending lent j).to_come
@@ -215,7 +214,8 @@ pub record Joins (f : Flow) (more : List ℕ) (lent : ℕ) (j : Incoming) : Type
 pub joined : (f : Flow) (more : List ℕ) (lent : ℕ) (j : Incoming) → IsFlow f → Joins f more lent j → (carry : List ℕ) → carry ≡ f.carry ++ more → (g : Flow) → g ≡ record f { carry = carry; incoming = lending lent j; lent = lent } → KeepsFlow f g × IsFlow g × (to_ask g < to_ask f)
 joined f more lent j was is carry carry_is g g_is =
     let len : length (f.carry ++ more) ≡ length f.carry + length more = length-append f.carry more in
-    let taken : f.before + length (f.carry ++ more) ≡ taken_of f + length more = omega (arith, len) in
+    let taken : f.before + length (f.carry ++ more) + f.over ≡ taken_of f + length more = omega (arith, len) in
+    let none : f.over ≡ 0 = elim (cases_lt 0 f.over) [ inl some ↦ absurd (omega (arith, (was.over some).0, is.within, is.some)) | inr none ↦ omega (arith, none) ] in
     rw (g_is, carry_is) (
       record {
         end = refl;
@@ -227,11 +227,10 @@ joined f more lent j was is carry carry_is g g_is =
       },
       record {
         held = omega (arith, len, is.room);
-        begun = was.begun;
+        within = omega (arith, len, was.within, is.within, is.lent_is, none);
         place = omega (arith, was.place, len, is.lent_is);
-        carried = λ some. omega (arith, is.low, len, is.some);
-        within = λ some. omega (arith, len, was.within (omega (arith, some, is.more_lent some)), is.more_lent some);
-        taken = omega (arith, len, is.within);
+        over = λ some. absurd (omega (arith, some, none));
+        taken = omega (arith, len, is.within, none);
         limit = was.limit;
         ended = λ e. absurd (false≢true (sym is.going ∙ e));
       },
@@ -239,26 +238,24 @@ joined f more lent j was is carry carry_is g g_is =
     )
 
 -- what a pull gave
-pub pulled : (f : Flow) (i j : Incoming) (count room : ℕ) (into : List ℕ) → f.incoming ≡ lending f.lent i → f.ended ≡ false → f.at < 8 → length f.carry + length into ≤ 64 → taken_of f + length into ≤ stop_of f → (count ≡ 0 → ⊥) → Gave i j count into → Joins f (take count into) (f.lent - count) j
-pulled f i j count room into is going low free within some gave =
+pub pulled : (f : Flow) (i j : Incoming) (count : ℕ) (into : List ℕ) → f.incoming ≡ lending f.lent i → f.ended ≡ false → length f.carry + length into ≤ 64 → taken_of f + length into ≤ stop_of f → (count ≡ 0 → ⊥) → Gave i j count into → Joins f (take count into) (f.lent - count) j
+pulled f i j count into is going free within some gave =
     let len : length (take count into) ≡ count = length-take-le count into gave.fits in
     let after : ℕ = f.limit + 1 - (taken_of f + length (take count into)) in
     let still : StillLent f.lent (f.lent - count) i j = λ k le. omega (arith, le, (came i j count into gave k).1) in
     record {
       some = omega (arith, len, some);
       room = omega (arith, len, gave.fits, free);
-      low = low;
       within = omega (arith, len, gave.fits, within);
       lent_is = omega (arith, len);
-      more_lent = λ more. omega (arith, len, more);
       spends = rw is (spends_lent i j f.lent (f.lent - count) (f.limit + 1 - taken_of f) after (gave_spends i j count into (f.limit + 1 - taken_of f) after gave (omega (arith, len, gave.fits, within)) (omega (arith, len, some, gave.fits, within))) still);
       bytes = λ k. bytes_so f i is k ∙ (came i j count into gave (lent_known f.lent i (known_so f i is k)).0).0 ∙ ap (λ (b : List ℕ). take count into ++ b) (sym (lent_after f.lent (f.lent - count) i j still (known_so f i is k)));
       going = going;
     }
 
 -- a pull gave nothing, though the source has lent a byte: its bytes are not known
-pub pulled_unseen : (f : Flow) (i j : Incoming) (count : ℕ) (into : List ℕ) → f.incoming ≡ lending f.lent i → f.ended ≡ false → f.at < 8 → length f.carry < 64 → taken_of f < stop_of f → count ≡ 0 → 0 < f.lent → 0 < length into → Gave i j count into → Joins f (take 1 into) (f.lent - 1) j
-pulled_unseen f i j count into is going low free within zero_given lent room gave =
+pub pulled_unseen : (f : Flow) (i j : Incoming) (count : ℕ) (into : List ℕ) → f.incoming ≡ lending f.lent i → f.ended ≡ false → length f.carry < 64 → taken_of f < stop_of f → count ≡ 0 → 0 < f.lent → 0 < length into → Gave i j count into → Joins f (take 1 into) (f.lent - 1) j
+pulled_unseen f i j count into is going free within zero_given lent room gave =
     let given : Gave i j 0 into = subst (λ (n : ℕ). Gave i j n into) zero_given gave in
     let none : length (known_bytes j.to_come) ≡ 0 = ap length (at_end j.to_come (given.end refl room)) in
     let nothing : IsSome i.to_come → length (known_bytes i.to_come) ≡ 0 = λ k. omega (arith, (came i j 0 into given k).1, none) in
@@ -268,10 +265,8 @@ pulled_unseen f i j count into is going low free within zero_given lent room gav
     record {
       some = omega (arith, len);
       room = omega (arith, len, free);
-      low = low;
       within = omega (arith, len, within);
       lent_is = omega (arith, len);
-      more_lent = λ more. omega (arith, len, more);
       going = going;
       spends = rw is (spends_lent i j f.lent (f.lent - 1) (f.limit + 1 - taken_of f) after (gave_spends i j 0 into (f.limit + 1 - taken_of f) after given (omega arith) (omega (arith, len, within))) (λ k le. omega (arith, le, nothing k)));
       bytes = λ k. absurd (not_known k);
@@ -282,70 +277,11 @@ pub shown_front : (o : Option (List ℕ)) (shown : List ℕ) → Begins o shown 
 shown_front None shown front known = absurd cc
 shown_front (Some all) shown front known = front
 
--- what was copied was then taken
-pub copied_taken : (f : Flow) (i j l : Incoming) (count copied : ℕ) (shown : List ℕ) → f.incoming ≡ lending f.lent i → f.ended ≡ false → f.at < 8 → IsFlow f → length f.carry + length shown ≤ 64 → length shown ≡ copied → copied ≤ f.lent → Looked i j → Begins i.to_come shown → (count ≡ 0 → ⊥) → GaveUnseen j l copied count → Joins f (take count shown) (f.lent - count) l
-copied_taken f i j l count copied shown is going low was free copied_is enough looked front some gave =
-    let len : length (take count shown) ≡ count = length-take-le count shown (omega (arith, gave.few, copied_is)) in
-    let after : ℕ = f.limit + 1 - (taken_of f + length (take count shown)) in
-    let same : IsSome i.to_come → known_bytes i.to_come ≡ known_bytes j.to_come = λ k. (kept i.to_come j.to_come looked.bytes k).1 in
-    let gone : IsSome i.to_come → known_bytes i.to_come ≡ take count gave.into ++ known_bytes l.to_come = λ k. same k ∙ (came j l count gave.into gave.gave (kept i.to_come j.to_come looked.bytes k).0).0 in
-    let gone_len : IsSome i.to_come → length (known_bytes i.to_come) ≡ count + length (known_bytes l.to_come) = λ k. omega (arith, ap length (same k), (came j l count gave.into gave.gave (kept i.to_come j.to_come looked.bytes k).0).1) in
-    let first : IsSome i.to_come → take count shown ≡ take count gave.into = λ k.
-        ap (take count) (sym (shown_front i.to_come shown front k)) ∙ take-take count (length shown) (known_bytes i.to_come) (omega (arith, gave.few, copied_is)) ∙ ap (take count) (gone k) ∙ take_at (take count gave.into) (known_bytes l.to_come) count (length-take-le count gave.into gave.gave.fits) in
-    let still : StillLent f.lent (f.lent - count) i l = λ k le. omega (arith, le, gone_len k) in
-    let within : taken_of f + copied ≤ stop_of f = omega (arith, was.within (omega (arith, enough, gave.few, some)), enough) in
-    record {
-      some = omega (arith, len, some);
-      room = omega (arith, len, gave.few, copied_is, free);
-      low = low;
-      within = omega (arith, len, gave.few, within);
-      lent_is = omega (arith, len);
-      more_lent = λ more. omega (arith, len, more);
-      spends = rw is (spends_lent i l f.lent (f.lent - count) (f.limit + 1 - taken_of f) after (Spends-trans i (f.limit + 1 - taken_of f) j (f.limit + 1 - taken_of f) l after (looked_spends i j (f.limit + 1 - taken_of f) looked) (gave_spends j l count gave.into (f.limit + 1 - taken_of f) after gave.gave (omega (arith, len, gave.few, within)) (omega (arith, len, some, gave.few, within)))) still);
-      bytes = λ k. let known = (lent_known f.lent i (known_so f i is k)).0 in bytes_so f i is k ∙ gone known ∙ ap (λ (b : List ℕ). b ++ known_bytes l.to_come) (sym (first known)) ∙ ap (λ (b : List ℕ). take count shown ++ b) (sym (lent_after f.lent (f.lent - count) i l still (known_so f i is k)));
-      going = going;
-    }
-
--- the source does not give them: its bytes are not known
-pub copied_unseen : (f : Flow) (i j l : Incoming) (count copied : ℕ) (shown : List ℕ) → f.incoming ≡ lending f.lent i → f.ended ≡ false → f.at < 8 → IsFlow f → length f.carry + length shown ≤ 64 → length shown ≡ copied → copied ≤ f.lent → (copied ≡ 0 → ⊥) → Looked i j → count ≡ 0 → GaveUnseen j l copied count → Joins f shown (f.lent - copied) l
-copied_unseen f i j l count copied shown is going low was free copied_is enough some looked zero_given gave =
-    let given : Gave j l 0 gave.into = subst (λ (n : ℕ). Gave j l n gave.into) zero_given gave.gave in
-    let end = given.end refl gave.some in
-    let none : length (known_bytes l.to_come) ≡ 0 = ap length (at_end l.to_come end) in
-    let nothing : IsSome i.to_come → length (known_bytes i.to_come) ≡ 0 = λ k. omega (arith, ap length (kept i.to_come j.to_come looked.bytes k).1, (came j l 0 gave.into given (kept i.to_come j.to_come looked.bytes k).0).1, none) in
-    let not_known : IsKnown f → ⊥ = λ k. let t = lent_known f.lent i (known_so f i is k) in omega (arith, t.1, nothing t.0, some, enough) in
-    let within : taken_of f + copied ≤ stop_of f = omega (arith, was.within (omega (arith, enough, some)), enough) in
-    let still : StillLent f.lent (f.lent - copied) i l = λ k le. omega (arith, le, nothing k) in
-    record {
-      some = omega (arith, copied_is, some);
-      room = free;
-      low = low;
-      within = omega (arith, copied_is, within);
-      lent_is = omega (arith, copied_is);
-      more_lent = λ more. omega (arith, copied_is, more);
-      spends = rw is (spends_lent i l f.lent (f.lent - copied) (f.limit + 1 - taken_of f) (f.limit + 1 - (taken_of f + length shown)) (Spends-trans i (f.limit + 1 - taken_of f) j (f.limit + 1 - taken_of f) l (f.limit + 1 - (taken_of f + length shown)) (looked_spends i j (f.limit + 1 - taken_of f) looked) (gave_spends j l 0 gave.into (f.limit + 1 - taken_of f) (f.limit + 1 - (taken_of f + length shown)) given (omega arith) (omega (arith, within, some, copied_is)))) still);
-      bytes = λ k. absurd (not_known k);
-      going = going;
-    }
-
--- the carry after bytes were copied behind it
-pub copied_carry : (held count copied : ℕ) (old new shown : List ℕ) → length (take held old) ≡ held → take (held + copied) new ≡ take held old ++ shown → count ≤ copied → take (held + count) new ≡ take held old ++ take count shown
-copied_carry held count copied old new shown len is few =
-    let all : held + count ≡ length (take held old) + count = omega (arith, len) in
-    sym (take-take (held + count) (held + copied) new (omega (arith, few))) ∙ ap (take (held + count)) is ∙ ap (λ (n : ℕ). take n (take held old ++ shown)) all ∙ take-append-add (take held old) shown count
-
 -- bytes that were written behind the first ones of a list
 pub written_behind : (held count : ℕ) (old new post : List ℕ) → held ≤ length old → count ≤ length new → take (held + count) (take held old ++ (new ++ post)) ≡ take held old ++ take count new
 written_behind held count old new post there few =
     let all : held + count ≡ length (take held old) + count = omega (arith, length-take-le held old there) in
     ap (λ (n : ℕ). take n (take held old ++ (new ++ post))) all ∙ take-append-add (take held old) (new ++ post) count ∙ ap (λ (b : List ℕ). take held old ++ b) (take-append-le count new post few)
-
--- bytes of the carry that were moved to its front
-pub moved_front : (whole held left : ℕ) (old new post : List ℕ) → whole ≤ held → held ≤ length old → left ≡ held - whole → new ≡ take left (drop whole old) → take left (new ++ post) ≡ drop whole (take held old)
-moved_front whole held left old new post few there left_is new_is =
-    let all : whole + left ≡ held = omega (arith, left_is, few) in
-    let len : length new ≡ left = omega (arith, ap length new_is, length-take-le left (drop whole old) (omega (arith, length-drop whole old, there, left_is, few))) in
-    take_at new post left len ∙ new_is ∙ sym (drop-take whole left old) ∙ ap (λ (n : ℕ). drop whole (take n old)) all
 
 pub copies_so : (to_come : Option (List ℕ)) (held count : ℕ) (old new shown post : List ℕ) → held ≤ length old → count ≤ length shown → new ≡ take count shown → Begins to_come shown → Copies to_come held count old (take held old ++ (new ++ post))
 copies_so to_come held count old new shown post there few new_is front =
@@ -367,11 +303,20 @@ stops_again f was e =
     let none : length (known_bytes f.incoming.to_come) ≡ 0 = ap length (at_end f.incoming.to_come end.0) in
     record { keeps = Keeps-refl f; left = omega (arith, flow_length f, none); cut = and_left (ltb f.limit (total_of f)) (ltb f.limit f.end) (le-ltb f.limit (total_of f) (omega (arith, end.1, none))) }
 
-pub stops_at_end : (f : Flow) → stop_of f ≤ taken_of f → f.end ≤ f.limit → NoMore f f false
-stops_at_end f at le = record { keeps = Keeps-refl f; left = omega (arith, flow_length f, at); cut = and_right (ltb f.limit (total_of f)) (ltb f.limit f.end) (le-ltb f.limit f.end le) }
+-- all bytes of the stream were taken
+taken_all : (f : Flow) → IsFlow f → stop_of f ≤ taken_of f → f.before + length f.carry ≡ stop_of f
+taken_all f was at = elim (cases_lt 0 f.over) [
+  | inl some ↦ (was.over some).0
+  | inr none ↦ omega (arith, was.within, at, none)
+]
 
-pub stops_at_limit : (f : Flow) → stop_of f ≤ taken_of f → f.limit < f.end → f.limit < taken_of f → NoMore f f true
-stops_at_limit f at lt over = record { keeps = Keeps-refl f; left = omega (arith, flow_length f, at); cut = and_from (ltb f.limit (total_of f)) (ltb f.limit f.end) (lt-ltb f.limit (total_of f) (omega (arith, over))) (lt-ltb f.limit f.end lt) }
+pub stops_at_end : (f : Flow) → IsFlow f → stop_of f ≤ taken_of f → f.end ≤ f.limit → NoMore f f false
+stops_at_end f was at le = record { keeps = Keeps-refl f; left = omega (arith, flow_length f, taken_all f was at); cut = and_right (ltb f.limit (total_of f)) (ltb f.limit f.end) (le-ltb f.limit f.end le) }
+
+pub stops_at_limit : (f : Flow) → IsFlow f → stop_of f ≤ taken_of f → f.limit < f.end → 0 < f.over → NoMore f f true
+stops_at_limit f was at lt over =
+    let all = taken_all f was at in
+    record { keeps = Keeps-refl f; left = omega (arith, flow_length f, all); cut = and_from (ltb f.limit (total_of f)) (ltb f.limit f.end) (lt-ltb f.limit (total_of f) (omega (arith, over, all, lt))) (lt-ltb f.limit f.end lt) }
 
 -- the source returns now that it is at its end
 pub ends_here : (f : Flow) (i j : Incoming) (count : ℕ) (into : List ℕ) → f.incoming ≡ lending f.lent i → IsFlow f → f.ended ≡ false → f.lent ≡ 0 → taken_of f ≤ f.limit → count ≡ 0 → 0 < length into → Gave i j count into → (g : Flow) → g ≡ record f { incoming = lending f.lent j; ended = true } → NoMore f g false × IsFlow g
@@ -397,40 +342,43 @@ ends_here f i j count into is was going none_lent le zero_given room gave g g_is
         left = omega (arith, flow_length later, ap length after);
         cut = and_left (ltb f.limit (total_of later)) (ltb f.limit f.end) (le-ltb f.limit (total_of later) (omega (arith, le, ap length after)));
       },
-      record { held = was.held; begun = was.begun; place = was.place; carried = was.carried; within = was.within; taken = was.taken; limit = was.limit; ended = λ e. (lent_at_end f.lent j end, le, none_lent) },
+      record { held = was.held; within = was.within; place = was.place; over = was.over; taken = was.taken; limit = was.limit; ended = λ e. (lent_at_end f.lent j end, le, none_lent) },
     )
 
 -- a byte past the limit shows that the input is longer
-pub goes_past : (f : Flow) (i j : Incoming) (count : ℕ) (into : List ℕ) → f.incoming ≡ lending f.lent i → IsFlow f → f.ended ≡ false → f.lent ≡ 0 → f.at < 8 → length f.carry ≤ 8 → stop_of f ≤ taken_of f → taken_of f ≤ f.limit → f.limit < f.end → (count ≡ 0 → ⊥) → length into ≡ 1 → Gave i j count into
-    → (carry : List ℕ) → carry ≡ f.carry ++ take 1 into → (g : Flow) → g ≡ record f { carry = carry; incoming = lending f.lent j } → NoMore f g true × IsFlow g
-goes_past f i j count into is was going none_lent low few at le lt some one gave carry carry_is g g_is =
+pub goes_past : (f : Flow) (i j : Incoming) (count : ℕ) (into : List ℕ) → f.incoming ≡ lending f.lent i → IsFlow f → f.ended ≡ false → f.lent ≡ 0 → f.over ≡ 0 → stop_of f ≤ taken_of f → f.limit < f.end → (count ≡ 0 → ⊥) → length into ≡ 1 → Gave i j count into
+    → (g : Flow) → g ≡ record f { incoming = lending f.lent j; over = 1 } → NoMore f g true × IsFlow g
+goes_past f i j count into is was going none_lent none at lt some one gave g g_is =
     let count_is : count ≡ 1 = omega (arith, gave.fits, one, some) in
     let given : Gave i j 1 into = subst (λ (n : ℕ). Gave i j n into) count_is gave in
-    let len : length (f.carry ++ take 1 into) ≡ length f.carry + 1 = omega (arith, length-append f.carry (take 1 into), length-take-le 1 into given.fits) in
+    let all : f.before + length f.carry ≡ stop_of f = taken_all f was at in
+    let room : stop_of f - f.before ≡ length f.carry = omega (arith, all) in
     let still : StillLent f.lent f.lent i j = λ k l. omega (arith, none_lent) in
-    let later : Flow = record f { carry = f.carry ++ take 1 into; incoming = lending f.lent j } in
-    let bytes : IsKnown f → known_bytes f.incoming.to_come ≡ take 1 into ++ known_bytes (lending f.lent j).to_come = λ k. bytes_so f i is k ∙ (came i j 1 into given (lent_known f.lent i (known_so f i is k)).0).0 ∙ ap (λ (b : List ℕ). take 1 into ++ b) (sym (lent_after f.lent f.lent i j still (known_so f i is k))) in
+    let later : Flow = record f { incoming = lending f.lent j; over = 1 } in
     let after : ℕ = f.limit + 1 - taken_of later in
-    rw (g_is, carry_is) (
+    let only : (b : List ℕ) → take (stop_of f - f.before) (f.carry ++ b) ≡ f.carry = λ b. take_at f.carry b (stop_of f - f.before) (sym room) in
+    let known : List ℕ = known_bytes f.incoming.to_come in
+    let rest : List ℕ = known_bytes (lending f.lent j).to_come in
+    let gone : IsKnown f → length known ≡ 1 + length rest = λ k. omega (arith, ap length (bytes_so f i is k), (came i j 1 into given (lent_known f.lent i (known_so f i is k)).0).1, ap length (lent_after f.lent f.lent i j still (known_so f i is k))) in
+    rw g_is (
       record {
         keeps = record {
           end = refl;
           limit = refl;
           place = refl;
-          spends = rw (going, is) (spends_lent i j f.lent f.lent (f.limit + 1 - taken_of f) after (gave_spends i j 1 into (f.limit + 1 - taken_of f) after given (omega (arith, len, le)) (omega (arith, len, le))) still);
-          left = λ k. ap (λ (b : List ℕ). drop f.at (bits_of_bytes (take (stop_of f - f.before) b))) (append_assoc f.carry (take 1 into) (known_bytes (lending f.lent j).to_come) ∙ ap (λ (b : List ℕ). f.carry ++ b) (sym (bytes k)));
-          total = λ k. omega (arith, len, ap length (bytes k), length-append (take 1 into) (known_bytes (lending f.lent j).to_come), length-take-le 1 into given.fits);
+          spends = rw (going, is) (spends_lent i j f.lent f.lent (f.limit + 1 - taken_of f) after (gave_spends i j 1 into (f.limit + 1 - taken_of f) after given (omega (arith, all, none, lt)) (omega (arith, all, none, lt))) still);
+          left = λ k. ap (λ (b : List ℕ). drop f.at (bits_of_bytes b)) (only rest ∙ sym (only known));
+          total = λ k. omega (arith, gone k, none);
         };
-        left = omega (arith, flow_length later, at);
-        cut = and_from (ltb f.limit (total_of later)) (ltb f.limit f.end) (lt-ltb f.limit (total_of later) (omega (arith, len, at, lt))) (lt-ltb f.limit f.end lt);
+        left = omega (arith, flow_length later, all);
+        cut = and_from (ltb f.limit (total_of later)) (ltb f.limit f.end) (lt-ltb f.limit (total_of later) (omega (arith, all, lt))) (lt-ltb f.limit f.end lt);
       },
       record {
-        held = omega (arith, len, few);
-        begun = was.begun;
-        place = omega (arith, was.place, len);
-        carried = λ more. omega (arith, low, len);
-        within = λ more. absurd (omega (arith, more, none_lent));
-        taken = omega (arith, len, le);
+        held = was.held;
+        within = was.within;
+        place = was.place;
+        over = λ more. (all, none_lent);
+        taken = omega (arith, all, lt);
         limit = was.limit;
         ended = λ e. absurd (false≢true (sym going ∙ e));
       },

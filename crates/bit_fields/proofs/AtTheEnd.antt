@@ -8,10 +8,10 @@ use Rattle.bit_fields.specs.declared.inflow.Missing.{Missing}
 use Rattle.bit_grammar.specs.declared.reason.Reason.TheVariants.{TooLong, WrapperSize}
 use Rattle.bit_grammar.specs.Grammar.{at}
 use Rattle.bit_fields.specs.Devices.{known_bytes}
-use Rattle.bit_fields.specs.Inflow.{Flow, IsKnown, IsFlow, place_of, stop_of, flow_bits, total_of, budget_of, KeepsFlow, RunsOut, Waits, Drained, Overran}
+use Rattle.bit_fields.specs.Inflow.{Flow, IsKnown, IsFlow, place_of, stop_of, flow_bits, total_of, budget_of, KeepsFlow, RunsOut, Waits, Drained, DrainFails}
 use Rattle.bit_fields.specs.Reader.{Reader, Extent, TellsBytes, StopsReading, is_cut, stopped_at}
 use Rattle.bit_fields.specs.Inside.{fault_of_missing, reader_of, IsReader}
-use Rattle.bit_fields.specs.Ending.{stream_end, reach_of, Stays, LooksForEnd, IsThrough, Closed, verdict}
+use Rattle.bit_fields.specs.Ending.{stream_end, reach_of, Stays, LooksForEnd, IsThrough, Closed, Closes, verdict}
 use Rattle.bit_fields.proofs.InflowLaws.{Spends-refl, Spends-none, left_ends}
 use Rattle.bit_fields.proofs.Parts.{cut_same}
 
@@ -114,7 +114,7 @@ pub closed : (live : Bool) (p : ℕ) (f g : Flow) (now : Reader) → reader_of l
 closed live p f g now view alive is flow through filled d =
     let here = through_at live p f now view alive through in
     let place : p ≡ place_of f = is alive in
-    let reach : p ≤ 8 * stop_of f = omega (arith, place, flow.place, flow.begun) in
+    let reach : p ≤ 8 * stop_of f = omega (arith, place, flow.place, flow.within) in
     rw (← view, alive) (record {
       stops = record { was_live = refl; failed = refl; goes_on = d.spends };
       fills = record { within = omega (arith, reach); wrapped = λ lt. omega (arith, reach, filled lt) };
@@ -122,13 +122,16 @@ closed live p f g now view alive is flow through filled d =
       none = d.none;
     })
 
-pub closes_past : (live : Bool) (p : ℕ) (f g : Flow) (now : Reader) → reader_of live p f ≡ now → live ≡ true → IsThrough now → (f.end < 2 ^ 64 - 1 → f.end ≤ p / 8) → Overran f g → StopsReading now (reader_of false p g) × (TellsBytes now → verdict now.extent ≡ Err (at TooLong (8 * g.limit)))
-closes_past live p f g now view alive through filled over =
+-- it did not reach the end
+pub closes_failed : (live : Bool) (p first : ℕ) (f g : Flow) (now : Reader) (what : Missing) (fault : Fault) → reader_of live p f ≡ now → live ≡ true → IsThrough now → (f.end < 2 ^ 64 - 1 → f.end ≤ p / 8) → DrainFails f g what → fault ≡ fault_of_missing what first g.limit → Closes now (Err fault) (reader_of false p g)
+closes_failed live p first f g now missing.End fault view alive through filled d fault_is = absurd d
+closes_failed live p first f g now missing.Limit fault view alive through filled d fault_is =
     let here = through_at live p f now view alive through in
-    rw (← view, alive) (
-      record { was_live = refl; failed = refl; goes_on = over.spends },
-      λ k. rw (unlike_short p f (here k) filled, lt-ltb f.limit (total_of f) (over.past k), over.limit) refl,
+    rw (fault_is, ← view, alive) (
+      record { was_live = refl; failed = refl; goes_on = d.spends },
+      λ k. rw (unlike_short p f (here k) filled, lt-ltb f.limit (total_of f) (d.past k), d.limit) refl,
     )
+closes_failed live p first f g now missing.Read fault view alive through filled d fault_is = rw (fault_is, ← view, alive) (record { was_live = refl; failed = refl; fails = d })
 
 -- the stream ends within its wrapper
 pub closes_short : (live : Bool) (p : ℕ) (f : Flow) (now : Reader) → reader_of live p f ≡ now → live ≡ true → IsThrough now → f.end < 2 ^ 64 - 1 → p / 8 < f.end → StopsReading now (reader_of false p f) × (TellsBytes now → verdict now.extent ≡ Err (at WrapperSize 96))

@@ -1,5 +1,5 @@
 -- Bits that are there: one field after another, and what a reader takes when it moves on by them.
-use Rattle.std.proofs.Common.{◌≡◌, ℕ, ◌+◌, ◌-◌, ◌≤◌, Bool, List, ◌++◌, length, drop, Result, Ok, Err, refl, sym, ap, ◌∙◌, subst, arith, append_assoc}
+use Rattle.std.proofs.Common.{◌≡◌, ℕ, ◌+◌, ◌-◌, ◌≤◌, Bool, true, List, ◌++◌, length, drop, Result, Ok, Err, refl, sym, ap, ◌∙◌, subst, arith, append_assoc}
 use Rattle.std.proofs.lemmas.List.{length-append, drop_at}
 use Rattle.bit_grammar.specs.Grammar as grammar
 use Rattle.bit_grammar.specs.Grammar.{Grammar, gives, ◌>>=◌, Spells, reading}

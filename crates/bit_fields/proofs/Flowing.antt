@@ -1,7 +1,7 @@
 -- Bits of a flow that are shown and read.
 use Rattle.std.proofs.Common.{◌≡◌, ℕ, zero, suc, ◌+◌, ◌*◌, ◌-◌, ◌<◌, ◌≤◌, ◌⊎◌, min, Bool, true, false, if◌then◌else◌, List, [], ◌++◌, length, take, drop, Option, Some, None, Result, Ok, Err, refl, sym, ap, ◌∙◌, subst, arith, append_assoc, take-take, inl, inr, ◌∷◌}
 use Rattle.std.proofs.lemmas.Bool.{false≢true, cases_lt}
-use Rattle.std.proofs.lemmas.List.{append-nil, length-append, length-take, length-take-le, length-drop, take-append-drop, take-append-le, drop-append-le, drop-take, nil_from_length}
+use Rattle.std.proofs.lemmas.List.{take_at, drop_at, append-nil, length-append, length-take, length-take-le, length-drop, take-append-drop, take-append-le, drop-append-le, drop-take, nil_from_length}
 use Rattle.std.proofs.Math.Seq.{take-append-add}
 use Rattle.std.specs.Prelude.{IsSome}
 use Rattle.std.specs.Io.KnownBytes.{IsAtEnd, Keeps}
@@ -11,9 +11,9 @@ use Rattle.bit_fields.specs.Devices.{Incoming, Begins, Gave, GaveUnseen, Looked,
 use Rattle.bit_fields.specs.Placed.{IsFront, bits_at}
 use Rattle.bit_fields.specs.declared.inflow.Missing.{Missing}
 use Rattle.bit_fields.specs.declared.inflow.Missing.TheVariants.{End, Limit, Read}
-use Rattle.bit_fields.specs.Inflow.{Flow, lending, IsKnown, stop_of, place_of, taken_of, flow_bits, total_of, budget_of, carried_of, there_of, IsFlow, Copies, KeepsFlow, LooksOn, Shows, Advances, TakesBits, Lacks, Asks, RunsOut, FailsFirst, Misses, Waits, Skips, Shortens, IsSettled, Settles, HandsOver, Draining, Drained, Overran, to_ask}
+use Rattle.bit_fields.specs.Inflow.{Flow, lending, IsKnown, stop_of, place_of, taken_of, flow_bits, total_of, budget_of, carried_of, there_of, IsFlow, Copies, KeepsFlow, LooksOn, Shows, ShowsFront, Advances, TakesBits, Lacks, Asks, RunsOut, FailsFirst, Misses, Waits, Skips, Shortens, IsSettled, Settles, HandsOver, Draining, Drained, Overran, to_ask}
 use Rattle.bit_fields.proofs.BitLaws.{bits_of_bytes-append, bits_of_bytes-take, length-bits_of_bytes, drop_more, take_whole}
-use Rattle.bit_fields.proofs.InflowLaws.{Spends-refl, Spends-trans, Spends-none, fails_later, kept, at_end, came, gave_spends, Keeps-trans, looks_on, lent_known, lent_bytes, lent_after, lent_at_end, looked_lent, StillLent, spends_lent, none_fails}
+use Rattle.bit_fields.proofs.InflowLaws.{drop_front, flow_length, Spends-refl, Spends-trans, Spends-none, fails_later, kept, at_end, came, gave_spends, Keeps-trans, looks_on, lent_known, lent_bytes, lent_after, lent_at_end, looked_lent, StillLent, spends_lent, none_fails}
 use Rattle.bit_fields.proofs.Asking.{known_so, bytes_so, moved_bits, shown_front, carried_on}
 
 -- ---- bits that are shown
@@ -37,35 +37,35 @@ looked_same i = record { bytes = keeps i.to_come; pulls = refl; failures = refl;
     keeps None = tt
     keeps (Some xs) = refl
 
-pub shows_so : (f : Flow) (i j : Incoming) (shown t : List ℕ) → f.incoming ≡ lending f.lent i → Looked i j → Begins i.to_come shown → length shown ≤ f.lent → t ≡ take (stop_of f - f.before) (f.carry ++ shown) → (g : Flow) → g ≡ record f { incoming = lending f.lent j } → Shows f (bits_at (8 * f.before) f.at t) g
-shows_so f i j shown t is looked front few t_is g g_is =
+-- bits behind some in bytes
+prefix_at : (room at : ℕ) (t more : List ℕ) → length t ≤ room → (rest : List Bool) × (drop at (bits_of_bytes (take room (t ++ more))) ≡ drop at (bits_of_bytes t) ++ rest)
+prefix_at room at t more few =
+    let front = take_prefix room t more in
+    let rest = drop_prefix at (bits_of_bytes t) (bits_of_bytes front.0) in
+    (rest.0, ap (λ (b : List ℕ). drop at (bits_of_bytes b)) (front.1 ∙ ap (λ (b : List ℕ). b ++ front.0) (take_whole room t few)) ∙ ap (drop at) (bits_of_bytes-append t front.0) ∙ rest.1)
+
+-- the bytes that a source lends, and those behind them
+lent_first : (f : Flow) (i : Incoming) (shown : List ℕ) → f.incoming ≡ lending f.lent i → Begins i.to_come shown → IsKnown f → known_bytes f.incoming.to_come ≡ shown ++ drop (length shown) (known_bytes i.to_come)
+lent_first f i shown is front k =
+    let known = (lent_known f.lent i (known_so f i is k)).0 in
+    bytes_so f i is k ∙ sym (take-append-drop (length shown) (known_bytes i.to_come)) ∙ ap (λ (b : List ℕ). b ++ drop (length shown) (known_bytes i.to_come)) (shown_front i.to_come shown front known)
+
+pub shows_so : (f : Flow) (i j : Incoming) (shown t : List ℕ) → f.incoming ≡ lending f.lent i → IsFlow f → Looked i j → Begins i.to_come shown → length shown ≤ f.lent → t ≡ f.carry ++ shown → (g : Flow) → g ≡ record f { incoming = lending f.lent j } → Shows f (bits_at (8 * f.before) f.at t) g
+shows_so f i j shown t is was looked front few t_is g g_is =
     let room : ℕ = stop_of f - f.before in
-    let len : length t ≡ min room (length f.carry + length shown) = omega (arith, ap length t_is, length-take room (f.carry ++ shown), length-append f.carry shown) in
+    let len : length t ≡ length f.carry + length shown = ap length t_is ∙ length-append f.carry shown in
     let bits : length (drop f.at (bits_of_bytes t)) ≡ 8 * length t - f.at = omega (arith, length-drop f.at (bits_of_bytes t), length-bits_of_bytes t) in
     record {
       looks = rw g_is (record { same = refl; looked = rw is (looked_lent f.lent i j looked) });
       position = refl;
       front = λ k.
-          let known = (lent_known f.lent i (known_so f i is k)).0 in
-          let behind : List ℕ = drop (length shown) (known_bytes i.to_come) in
-          let all : known_bytes f.incoming.to_come ≡ shown ++ behind = bytes_so f i is k ∙ sym (take-append-drop (length shown) (known_bytes i.to_come)) ∙ ap (λ (b : List ℕ). b ++ behind) (shown_front i.to_come shown front known) in
-          let more = take_prefix room (f.carry ++ shown) behind in
-          let whole : take room (f.carry ++ known_bytes f.incoming.to_come) ≡ t ++ more.0 = ap (λ (b : List ℕ). take room (f.carry ++ b)) all ∙ ap (take room) (sym (append_assoc f.carry shown behind)) ∙ more.1 ∙ ap (λ (b : List ℕ). b ++ more.0) (sym t_is) in
-          let rest = drop_prefix f.at (bits_of_bytes t) (bits_of_bytes more.0) in
-          (rest.0, ap (λ (b : List ℕ). drop f.at (bits_of_bytes b)) whole ∙ ap (drop f.at) (bits_of_bytes-append t more.0) ∙ rest.1);
+          let more : List ℕ = drop (length shown) (known_bytes i.to_come) in
+          let all : f.carry ++ known_bytes f.incoming.to_come ≡ t ++ more = ap (λ (b : List ℕ). f.carry ++ b) (lent_first f i shown is front k) ∙ sym (append_assoc f.carry shown more) ∙ ap (λ (b : List ℕ). b ++ more) (sym t_is) in
+          let rest = prefix_at room f.at t more (omega (arith, len, few, was.within)) in
+          (rest.0, ap (λ (b : List ℕ). drop f.at (bits_of_bytes (take room b))) all ∙ rest.1);
       there = omega (arith, bits, len, few);
       carried = omega (arith, bits, len);
     }
-
--- what a carry shows behind which bytes were copied
-pub carry_shown : (room held count filled : ℕ) (old new shown : List ℕ) → held ≤ length old → length shown ≡ count → take (held + count) new ≡ take held old ++ shown → filled ≡ min room (held + count) → take filled new ≡ take room (take held old ++ shown)
-carry_shown room held count filled old new shown there long is filled_is =
-    let len : length (take held old ++ shown) ≡ held + count = omega (arith, length-append (take held old) shown, length-take-le held old there, long) in
-    sym (take-take filled (held + count) new (omega (arith, filled_is))) ∙ ap (take filled) is ∙ same (cases_lt (held + count) room) len
-  where
-    same : ((held + count) < room) ⊎ (room ≤ held + count) → length (take held old ++ shown) ≡ held + count → take filled (take held old ++ shown) ≡ take room (take held old ++ shown)
-    same (inl lt) len = take_whole filled (take held old ++ shown) (omega (arith, len, filled_is, lt)) ∙ sym (take_whole room (take held old ++ shown) (omega (arith, len, lt)))
-    same (inr le) len = let e : filled ≡ room = omega (arith, filled_is, le) in ap (λ (n : ℕ). take n (take held old ++ shown)) e
 
 pub carry_same : (held count : ℕ) (old new shown : List ℕ) → held ≤ length old → take (held + count) new ≡ take held old ++ shown → take held new ≡ take held old
 carry_same held count old new shown there is =
@@ -80,34 +80,45 @@ begins_front (Some all) shown count few front =
     ap (λ (m : ℕ). take m all) n ∙ sym (take-take count (length shown) all (omega (arith, few))) ∙ ap (take count) front
 
 -- bits where the source lends them
-pub shows_lent : (f : Flow) (i j : Incoming) (bytes : List ℕ) (count : ℕ) → f.incoming ≡ lending f.lent i → IsFlow f → f.carry ≡ [] → 0 < f.lent → Looked i j → Begins i.to_come bytes → count ≡ min f.lent (length bytes) → (b : BufferedBits) → b ≡ bits_at (8 * f.before) f.at (take count bytes) → (g : Flow) → g ≡ record f { incoming = lending f.lent j } → Shows f b g
-shows_lent f i j bytes count is was empty some looked front count_is b b_is g g_is =
+pub shows_lent : (f : Flow) (i j : Incoming) (bytes : List ℕ) (held count : ℕ) → f.incoming ≡ lending f.lent i → IsFlow f → length f.carry ≡ held → 8 * held ≤ f.at → Looked i j → Begins i.to_come bytes → count ≡ min f.lent (length bytes) → (b : BufferedBits) → b ≡ bits_at (8 * f.before + 8 * held) (f.at - 8 * held) (take count bytes) → (g : Flow) → g ≡ record f { incoming = lending f.lent j } → Shows f b g
+shows_lent f i j bytes held count is was held_is past looked front count_is b b_is g g_is =
     let few : count ≤ length bytes = omega (arith, count_is) in
-    let len : length (take count bytes) ≡ count = length-take-le count bytes few in
-    let room : count ≤ stop_of f - f.before = omega (arith, count_is, was.within some, ap length empty) in
-    let t_is : take count bytes ≡ take (stop_of f - f.before) (f.carry ++ take count bytes) = sym (ap (λ (c : List ℕ). take (stop_of f - f.before) (c ++ take count bytes)) empty ∙ take_whole (stop_of f - f.before) (take count bytes) (omega (arith, len, room))) in
-    subst (λ (x : BufferedBits). Shows f x g) (sym b_is) (shows_so f i j (take count bytes) (take count bytes) is looked (begins_front i.to_come bytes count few front) (omega (arith, len, count_is)) t_is g g_is)
+    let t : List ℕ = take count bytes in
+    let len : length t ≡ count = length-take-le count bytes few in
+    let room : ℕ = stop_of f - f.before in
+    let bits : length (drop (f.at - 8 * held) (bits_of_bytes t)) ≡ 8 * count - (f.at - 8 * held) = omega (arith, length-drop (f.at - 8 * held) (bits_of_bytes t), length-bits_of_bytes t, len) in
+    rw b_is (record {
+      looks = rw g_is (record { same = refl; looked = rw is (looked_lent f.lent i j looked) });
+      position = omega (arith, past);
+      front = λ k.
+          let more : List ℕ = drop (length t) (known_bytes i.to_come) in
+          let all : f.carry ++ known_bytes f.incoming.to_come ≡ f.carry ++ (t ++ more) = ap (λ (b : List ℕ). f.carry ++ b) (lent_first f i t is (begins_front i.to_come bytes count few front) k) in
+          let rest = prefix_at (room - length f.carry) (f.at - 8 * held) t more (omega (arith, len, count_is, was.within)) in
+          let place : f.at - 8 * length f.carry ≡ f.at - 8 * held = omega (arith, held_is) in
+          (rest.0, ap (λ (b : List ℕ). drop f.at (bits_of_bytes (take room b))) all ∙ drop_front f.carry (t ++ more) room f.at (omega (arith, was.within)) (omega (arith, past, held_is)) ∙ ap (λ (n : ℕ). drop n (bits_of_bytes (take (room - length f.carry) (t ++ more)))) place ∙ rest.1);
+      there = omega (arith, bits, count_is, held_is, past);
+      carried = omega (arith, held_is, past);
+    })
 
 abbrev with_carry : Flow → Incoming → List ℕ → Flow
 with_carry f i carry = record f { carry = carry; incoming = i }
 
 -- bits in the carry, and behind them some that are lent
-pub shows_joined : (f : Flow) (i j : Incoming) (held count filled : ℕ) (old new : List ℕ) → f.incoming ≡ lending f.lent i → f.carry ≡ take held old → held ≤ length old → Looked i j → count ≤ f.lent → Copies i.to_come held count old new → filled ≡ min (stop_of f - f.before) (held + count) → (b : BufferedBits) → b ≡ bits_at (8 * f.before) f.at (take filled new)
+pub shows_joined : (f : Flow) (i j : Incoming) (held count : ℕ) (old new : List ℕ) → f.incoming ≡ lending f.lent i → IsFlow f → f.carry ≡ take held old → held ≤ length old → Looked i j → count ≤ f.lent → Copies i.to_come held count old new → (b : BufferedBits) → b ≡ bits_at (8 * f.before) f.at (take (held + count) new)
     → (carry : List ℕ) → carry ≡ take held new → (g : Flow) → g ≡ record f { carry = carry; incoming = lending f.lent j } → Shows f b g
-shows_joined f i j held count filled old new is carry_is there looked few copies filled_is b b_is carry after g g_is =
+shows_joined f i j held count old new is was carry_is there looked few copies b b_is carry after g g_is =
     let same : carry ≡ f.carry = after ∙ carry_same held count old new copies.shown there copies.is ∙ sym carry_is in
-    let t_is : take filled new ≡ take (stop_of f - f.before) (f.carry ++ copies.shown) = carry_shown (stop_of f - f.before) held count filled old new copies.shown there copies.long copies.is filled_is ∙ ap (λ (c : List ℕ). take (stop_of f - f.before) (c ++ copies.shown)) (sym carry_is) in
+    let t_is : take (held + count) new ≡ f.carry ++ copies.shown = copies.is ∙ ap (λ (c : List ℕ). c ++ copies.shown) (sym carry_is) in
     let g_same : g ≡ record f { incoming = lending f.lent j } = g_is ∙ ap (with_carry f (lending f.lent j)) same in
-    subst (λ (x : BufferedBits). Shows f x g) (sym b_is) (shows_so f i j copies.shown (take filled new) is looked copies.front (omega (arith, copies.long, few)) t_is g g_same)
+    subst (λ (x : BufferedBits). Shows f x g) (sym b_is) (shows_so f i j copies.shown (take (held + count) new) is was looked copies.front (omega (arith, copies.long, few)) t_is g g_same)
 
 -- a source that is looked at keeps the invariant; at its end it is not called
 pub looked_flow : (f : Flow) (i j : Incoming) → f.incoming ≡ lending f.lent i → IsFlow f → (f.lent ≡ 0 → j ≡ i) → (carry : List ℕ) → carry ≡ f.carry → IsFlow (record f { carry = carry; incoming = lending f.lent j })
 looked_flow f i j is was same carry carry_is = rw carry_is (record {
   held = was.held;
-  begun = was.begun;
-  place = was.place;
-  carried = was.carried;
   within = was.within;
+  place = was.place;
+  over = was.over;
   taken = was.taken;
   limit = was.limit;
   ended = λ e. (subst (λ (x : Incoming). IsAtEnd (lending f.lent x).to_come) (sym (same (was.ended e).2)) (subst (λ (x : Incoming). IsAtEnd x.to_come) is (was.ended e).0), (was.ended e).1, (was.ended e).2);
@@ -115,71 +126,71 @@ looked_flow f i j is was same carry carry_is = rw carry_is (record {
 
 -- ---- bits that are read
 
-pub advances_on : (n : ℕ) (f : Flow) → n ≤ there_of f → IsFlow f → (0 < length f.carry → f.at + n < 8 * length f.carry) → (g : Flow) → g ≡ record f { at = f.at + n } → Advances n f g × IsFlow g
-advances_on n f there was within g g_is = rw g_is (
+pub advances_on : (n : ℕ) (f : Flow) → n ≤ there_of f → IsFlow f → (g : Flow) → g ≡ record f { at = f.at + n } → Advances n f g × IsFlow g
+advances_on n f there was g g_is = rw g_is (
   record {
     incoming = refl;
     end = refl;
     limit = refl;
     place = omega arith;
     there = omega (arith, there);
-    small = omega (arith, there, was.place, was.begun, was.limit);
+    small = omega (arith, there, was.place, was.within, was.limit);
     budget = refl;
     left = sym (drop_more f.at n (bits_of_bytes (take (stop_of f - f.before) (f.carry ++ known_bytes f.incoming.to_come))));
     total = refl;
   },
-  record { held = was.held; begun = was.begun; place = omega (arith, there, was.place); carried = within; within = was.within; taken = was.taken; limit = was.limit; ended = was.ended },
+  record { held = was.held; within = was.within; place = omega (arith, there, was.place); over = was.over; taken = was.taken; limit = was.limit; ended = was.ended },
 )
-
-pub advances_past : (n held : ℕ) (f : Flow) → n ≤ there_of f → IsFlow f → length f.carry ≡ held → 8 * held ≤ f.at + n → (g : Flow) → g ≡ record f { carry = []; at = f.at + n - 8 * held; before = f.before + held } → Advances n f g × IsFlow g
-advances_past n held f there was len past g g_is =
-    let known : List ℕ = known_bytes f.incoming.to_come in
-    let taken : f.before + held + 0 ≡ taken_of f = omega (arith, len) in
-    let begun : f.before + held ≤ stop_of f = omega (arith, past, there, was.place, was.begun) in
-    rw g_is (
-      record {
-        incoming = refl;
-        end = refl;
-        limit = refl;
-        place = omega (arith, past);
-        there = omega (arith, there, past, was.begun, len);
-        small = omega (arith, there, was.place, was.begun, was.limit, past);
-        budget = ap (λ (t : ℕ). if f.ended then 0 else (f.limit + 1 - t)) taken;
-        left = moved_bits f.carry (f.carry ++ known) known (stop_of f) f.before (f.at + n) held len refl (omega (arith, begun)) past ∙ sym (drop_more f.at n (bits_of_bytes (take (stop_of f - f.before) (f.carry ++ known))));
-        total = omega (arith, len);
-      },
-      record {
-        held = omega arith;
-        begun = begun;
-        place = omega (arith, there, was.place, past, begun, len);
-        carried = λ some. absurd (omega (arith, some));
-        within = λ some. omega (arith, was.within some, len);
-        taken = omega (arith, was.taken, len);
-        limit = was.limit;
-        ended = λ e. ((was.ended e).0, omega (arith, (was.ended e).1, len), (was.ended e).2);
-      },
-    )
 
 pub there_on : (f g : Flow) → LooksOn f g → there_of g ≡ there_of f
 there_on f g looks = ap there_of looks.same
 
-pub takes_bits : (n v : ℕ) (b : BufferedBits) (f m g : Flow) → Shows f b m → IsFront n b v → Advances n m g → TakesBits n v f g
-takes_bits n v b f m g shows front adv =
+-- bits that are shown and have this number
+pub shows_front : (n v : ℕ) (b : BufferedBits) (f m : Flow) → Shows f b m → IsFront n b v → ShowsFront n v f m
+shows_front n v b f m shows front = record {
+  looks = shows.looks;
+  there = omega (arith, front.there, shows.there);
+  front = take n b.bits;
+  long = length-take-le n b.bits front.there;
+  is = front.is;
+  begins = λ k.
+      let rest = shows.front k in
+      (drop n b.bits ++ rest.0, rest.1 ∙ ap (λ (s : List Bool). s ++ rest.0) (sym (take-append-drop n b.bits)) ∙ append_assoc (take n b.bits) (drop n b.bits) rest.0);
+}
+
+-- nothing is asked, and nothing changes
+pub looks_same : (f : Flow) → LooksOn f f
+looks_same f = record { same = refl; looked = looked_same f.incoming }
+
+-- bits of the carry
+pub held_shows : (n v : ℕ) (f : Flow) → IsFlow f → f.at + n ≤ 8 * length f.carry → v ≡ number (take n (flow_bits f)) → ShowsFront n v f f
+held_shows n v f was there is =
+    let enough : n ≤ length (flow_bits f) = omega (arith, flow_length f, there, was.within) in
+    record {
+      looks = looks_same f;
+      there = omega (arith, there);
+      front = take n (flow_bits f);
+      long = length-take-le n (flow_bits f) enough;
+      is = is;
+      begins = λ k. (drop n (flow_bits f), sym (take-append-drop n (flow_bits f)));
+    }
+
+pub takes_bits : (n v : ℕ) (f m g : Flow) → ShowsFront n v f m → Advances n m g → TakesBits n v f g
+takes_bits n v f m g shows adv =
     let keeps = looks_on f m shows.looks in
     record {
-      front = take n b.bits;
-      long = length-take-le n b.bits front.there;
-      is = front.is;
+      front = shows.front;
+      long = shows.long;
+      is = shows.is;
       end = adv.end ∙ keeps.end;
       limit = adv.limit ∙ keeps.limit;
       place = omega (arith, adv.place, keeps.place);
       small = adv.small;
       spends = subst (λ (i : Incoming). Spends f.incoming (budget_of f) i (budget_of g)) (sym adv.incoming) (subst (λ (x : ℕ). Spends f.incoming (budget_of f) m.incoming x) (sym adv.budget) keeps.spends);
       left = λ k.
-          let rest = shows.front k in
-          let whole : flow_bits m ≡ b.bits ++ rest.0 = keeps.left k ∙ rest.1 in
-          let first : take n (flow_bits m) ≡ take n b.bits = ap (take n) whole ∙ take-append-le n b.bits rest.0 front.there in
-          sym (keeps.left k) ∙ sym (take-append-drop n (flow_bits m)) ∙ ap (λ (s : List Bool). s ++ drop n (flow_bits m)) first ∙ ap (λ (s : List Bool). take n b.bits ++ s) (sym adv.left);
+          let rest = shows.begins k in
+          let behind : flow_bits g ≡ rest.0 = adv.left ∙ ap (drop n) (keeps.left k ∙ rest.1) ∙ drop_at shows.front rest.0 n shows.long in
+          rest.1 ∙ ap (λ (s : List Bool). shows.front ++ s) (sym behind);
       total = λ k. adv.total ∙ keeps.total k;
     }
 
@@ -216,13 +227,16 @@ misses_later n f m h g Read keeps lacks asks =
       given = omega (arith, asks.given, carried_on m h lacks.looks, lacks.few, all.place);
     }
 
-pub waited : (b : BufferedBits) (f m h : Flow) (count : ℕ) → KeepsFlow f m → Shows m b h → count ≡ length b.bits → 0 < count → Waits f h (Ok count)
-waited b f m h count keeps shows is some = (
-  Keeps-trans f m h keeps (looks_on m h shows.looks),
-  some,
-  omega (arith, is, shows.there, there_on m h shows.looks),
-  λ k. let rest = shows.front (keeps.spends.tells k) in omega (arith, is, ap length (sym (keeps.left k) ∙ rest.1), length-append b.bits rest.0),
-)
+-- no bit is there
+pub lacks_one : (f : Flow) → there_of f ≡ 0 → Lacks 1 f f
+lacks_one f none = record { looks = looks_same f; few = omega (arith, none) }
+
+pub waited : (f m : Flow) (count : ℕ) → KeepsFlow f m → count ≡ there_of m → (IsKnown m → count ≤ length (flow_bits m)) → 0 < count → Waits f m (Ok count)
+waited f m count keeps is known some = (keeps, some, omega (arith, is), λ k. omega (arith, known (keeps.spends.tells k), ap length (keeps.left k)))
+
+-- the bits that are there are the next ones
+pub there_known : (f : Flow) (i : Incoming) → f.incoming ≡ lending f.lent i → IsFlow f → IsKnown f → there_of f ≤ length (flow_bits f)
+there_known f i is was k = omega (arith, flow_length f, was.within, (lent_known f.lent i (known_so f i is k)).1, ap length (bytes_so f i is k))
 
 pub skipped : (f m g : Flow) (most found count : ℕ) → Waits f m (Ok found) → count ≡ min found most → 0 < most → Advances count m g → Skips f g count × (count ≤ most)
 skipped f m g most found count w is some adv =
@@ -255,48 +269,80 @@ take_both a b c bytes is = elim (cases_lt b a) [
   | inr le ↦ take-take a b bytes le ∙ (let e : a ≡ c = omega (arith, is, le) in ap (λ (n : ℕ). take n bytes) e)
 ]
 
-pub shortened : (f : Flow) (i : Incoming) (end lent : ℕ) → f.incoming ≡ lending f.lent i → IsFlow f → place_of f ≤ 8 * end → lent ≡ min f.lent (min end f.limit - taken_of f) → (g : Flow) → g ≡ record f { incoming = lending lent i; lent = lent; end = end } → Shortens end f g × IsFlow g
-shortened f i end lent is was least lent_is g g_is =
+-- as much of a carry as a stream has room for
+cut_carry : (room held : ℕ) (c : List ℕ) (x : List ℕ) → length c ≡ held → take room (take (min held room) c ++ x) ≡ take room (c ++ x) ⊎ (held ≤ room)
+cut_carry room held c x len = elim (cases_lt room held) [
+  | inl lt ↦
+      let all : min held room ≡ room = omega (arith, lt) in
+      let short : length (take room c) ≡ room = length-take-le room c (omega (arith, len, lt)) in
+      inl (ap (λ (n : ℕ). take room (take n c ++ x)) all ∙ take_at (take room c) x room short ∙ sym (take-append-le room c x (omega (arith, len, lt))))
+  | inr le ↦ inr le
+]
+
+-- a carry of which no more is kept than there is room for
+kept_front : (room held : ℕ) (c x : List ℕ) → length c ≡ held → take room (take (min held room) c ++ x) ≡ take room (c ++ x)
+kept_front room held c x len = elim (cut_carry room held c x len) [
+  | inl same ↦ same
+  | inr le ↦
+      let all : min held room ≡ held = omega (arith, le) in
+      ap (λ (n : ℕ). take room (take n c ++ x)) all ∙ ap (λ (y : List ℕ). take room (y ++ x)) (take_whole held c (omega (arith, len)))
+]
+
+pub shortened : (f : Flow) (i : Incoming) (end held room kept lent : ℕ) → f.incoming ≡ lending f.lent i → IsFlow f → length f.carry ≡ held → place_of f ≤ 8 * end → f.limit ≤ f.end → room ≡ min end f.limit - f.before → kept ≡ min held room → lent ≡ min f.lent (room - kept) → (carry : List ℕ) → carry ≡ take kept f.carry
+    → (g : Flow) → g ≡ record f { carry = carry; incoming = lending lent i; lent = lent; over = f.over + (held - kept); end = end } → Shortens end f g × IsFlow g
+shortened f i end held room kept lent is was held_is least high room_is kept_is lent_is carry carry_is g g_is =
     let still : StillLent f.lent lent i i = λ k le. omega (arith, le, lent_is) in
     let same : IsKnown f → known_bytes (lending lent i).to_come ≡ known_bytes f.incoming.to_come = λ k. lent_after f.lent lent i i still (known_so f i is k) ∙ sym (bytes_so f i is k) in
-    rw g_is (
+    let len : length (take kept f.carry) ≡ kept = length-take-le kept f.carry (omega (arith, kept_is, held_is)) in
+    let taken : f.before + length (take kept f.carry) + (f.over + (held - kept)) ≡ taken_of f = omega (arith, len, held_is, kept_is) in
+    let begun : f.before ≤ min end f.limit = omega (arith, was.within, least) in
+    rw (g_is, carry_is) (
       record {
         end_is = refl;
         limit = refl;
         place = refl;
-        spends = rw is (spends_lent i i f.lent lent (budget_of f) (budget_of f) (Spends-refl i (budget_of f)) still);
-        left = λ k high.
+        spends = rw taken (rw is (spends_lent i i f.lent lent (budget_of f) (budget_of f) (Spends-refl i (budget_of f)) still));
+        left = λ k unbounded.
             let all : List ℕ = f.carry ++ known_bytes f.incoming.to_come in
             let bits : List Bool = bits_of_bytes (take (stop_of f - f.before) all) in
             let n : ℕ = 8 * end - place_of f in
-            let room : 8 * (end - f.before) ≡ f.at + n = omega (arith, least) in
+            let whole : 8 * (end - f.before) ≡ f.at + n = omega (arith, least) in
             let cut : min end f.limit - f.before ≡ min (end - f.before) (stop_of f - f.before) = omega (arith, high) in
-            ap (λ (b : List ℕ). drop f.at (bits_of_bytes (take (min end f.limit - f.before) (f.carry ++ b)))) (same k)
+            let front : take (min end f.limit - f.before) (take kept f.carry ++ known_bytes f.incoming.to_come) ≡ take (min end f.limit - f.before) all =
+            subst (λ (r : ℕ). take r (take kept f.carry ++ known_bytes f.incoming.to_come) ≡ take r all) room_is (subst (λ (m : ℕ). take room (take m f.carry ++ known_bytes f.incoming.to_come) ≡ take room all) (sym kept_is) (kept_front room held f.carry (known_bytes f.incoming.to_come) held_is)) in
+            ap (λ (b : List ℕ). drop f.at (bits_of_bytes (take (min end f.limit - f.before) (take kept f.carry ++ b)))) (same k)
+            ∙ ap (λ (b : List ℕ). drop f.at (bits_of_bytes b)) front
             ∙ ap (λ (b : List ℕ). drop f.at (bits_of_bytes b)) (sym (take_both (end - f.before) (stop_of f - f.before) (min end f.limit - f.before) all cut))
-            ∙ ap (drop f.at) (sym (take_bytes (end - f.before) (take (stop_of f - f.before) all))) ∙ ap (λ (m : ℕ). drop f.at (take m bits)) room ∙ drop-take f.at n bits;
-        total = λ k. ap (λ (b : List ℕ). taken_of f + length b) (same k);
+            ∙ ap (drop f.at) (sym (take_bytes (end - f.before) (take (stop_of f - f.before) all))) ∙ ap (λ (m : ℕ). drop f.at (take m bits)) whole ∙ drop-take f.at n bits;
+        total = λ k. omega (arith, taken, ap length (same k));
       },
       record {
-        held = was.held;
-        begun = omega (arith, was.begun, least);
-        place = omega (arith, was.place, was.begun, least, lent_is);
-        carried = was.carried;
-        within = λ some. omega (arith, some, lent_is);
-        taken = was.taken;
+        held = omega (arith, was.held, len, kept_is, held_is);
+        within = omega (arith, len, kept_is, lent_is, room_is, begun);
+        place = omega (arith, was.place, was.within, least, lent_is, kept_is, held_is, room_is, begun, len);
+        over = λ some. shut some;
+        taken = omega (arith, taken, was.taken);
         limit = was.limit;
-        ended = λ e. let none : lent ≡ f.lent = omega (arith, lent_is, (was.ended e).2) in
-            (subst (λ (n : ℕ). IsAtEnd (lending n i).to_come) (sym none) (subst (λ (x : Incoming). IsAtEnd x.to_come) is (was.ended e).0), (was.ended e).1, omega (arith, none, (was.ended e).2));
+        ended = λ e.
+            let none : lent ≡ f.lent = omega (arith, lent_is, (was.ended e).2) in
+            (subst (λ (n : ℕ). IsAtEnd (lending n i).to_come) (sym none) (subst (λ (x : Incoming). IsAtEnd x.to_come) is (was.ended e).0), omega (arith, taken, (was.ended e).1), omega (arith, none, (was.ended e).2));
       },
     )
+  where
+    shut : 0 < f.over + (held - kept) → (f.before + length (take kept f.carry) ≡ min end f.limit) × (lent ≡ 0)
+    shut some =
+        let len : length (take kept f.carry) ≡ kept = length-take-le kept f.carry (omega (arith, kept_is, held_is)) in
+        elim (cases_lt kept held) [
+          | inl less ↦ (omega (arith, len, less, kept_is, room_is, was.within, least), omega (arith, lent_is, less, kept_is))
+          | inr all ↦
+              let over = was.over (omega (arith, some, all, kept_is)) in
+              (omega (arith, len, over.0, held_is, all, kept_is, room_is, high, was.within), omega (arith, lent_is, over.1))
+        ]
 
 -- ---- the source when nothing more is read
 
-pub settled : (f : Flow) → IsFlow f → (f.carry ≡ [] → f.at < 8) → IsSettled f
-settled f was low k = settles f.carry refl
-  where
-    settles : (c : List ℕ) → f.carry ≡ c → place_of f < 8 * taken_of f + 8
-    settles [] e = omega (arith, low e)
-    settles (b ∷ c) e = omega (arith, was.carried (omega (arith, ap length e)))
+pub settled : (f : Flow) → f.at < 8 * length f.carry + 8 → IsSettled f
+settled f low k = omega (arith, low)
 
 pub released : (l : ℕ) (i : Incoming) → Spends (lending l i) 0 i 0
 released l i = record {
@@ -337,10 +383,9 @@ drain_begins f i is was g g_is =
     rw g_is (
       record {
         held = was.held;
-        begun = was.begun;
+        within = omega (arith, was.within);
         place = omega arith;
-        carried = λ some. omega (arith, some);
-        within = λ some. absurd (omega (arith, some));
+        over = λ some. ((was.over some).0, refl);
         taken = was.taken;
         limit = was.limit;
         ended = λ e. (subst (λ (n : ℕ). IsAtEnd (lending n i).to_come) (was.ended e).2 (subst (λ (x : Incoming). IsAtEnd x.to_come) is (was.ended e).0), (was.ended e).1, refl);

@@ -210,7 +210,10 @@ flow_length f =
 
 -- where the unread bits end
 pub left_ends : (f : Flow) → IsFlow f → IsKnown f → f.lent ≤ length (known_bytes f.incoming.to_come) → place_of f + length (flow_bits f) ≡ 8 * min (stop_of f) (total_of f)
-left_ends f is known lent = omega (arith, flow_length f, is.begun, is.place, lent)
+left_ends f is known lent = elim (cases_lt 0 f.over) [
+  | inl some ↦ omega (arith, flow_length f, is.within, is.place, (is.over some).0, (is.over some).1)
+  | inr none ↦ omega (arith, flow_length f, is.within, is.place, lent, none)
+]
 
 -- ---- what stays
 
@@ -244,5 +247,5 @@ looks_on f g looks = subst (KeepsFlow f) (sym looks.same) (looks_keep f g.incomi
 
 -- ---- a new flow
 
-pub new_flow : (i : Incoming) (limit : ℕ) → ◌≡◌ {A = Flow} (record { carry = []; incoming = lending 0 i; lent = 0; at = 0; before = 0; end = 18446744073709551615; limit = limit; ended = false }) (record { carry = []; incoming = i; lent = 0; at = 0; before = 0; end = 18446744073709551615; limit = limit; ended = false })
+pub new_flow : (i : Incoming) (limit : ℕ) → ◌≡◌ {A = Flow} (record { carry = []; incoming = lending 0 i; lent = 0; at = 0; before = 0; over = 0; end = 18446744073709551615; limit = limit; ended = false }) (record { carry = []; incoming = i; lent = 0; at = 0; before = 0; over = 0; end = 18446744073709551615; limit = limit; ended = false })
 new_flow i limit = rw (lending_all 0 i (omega arith)) refl

@@ -59,12 +59,12 @@ zeros_both first (suc count) more p (false ∷ r) =
 
 -- ---- what a call takes
 
-pub zeros_took : (was : Bool) (first most p q : ℕ) (f g : Flow) (now : Reader) → reader_of was p f ≡ now → was ≡ true → 0 < most → TakesBits most 0 f g → q ≡ p + most → TookZeros first most most now (reader_of was q g)
-zeros_took was first most p q f g now view live some t q_is =
+pub zeros_took : (was : Bool) (first most count p q : ℕ) (f g : Flow) (now : Reader) → reader_of was p f ≡ now → was ≡ true → 0 < count → count ≤ most → TakesBits count 0 f g → q ≡ p + count → TookZeros first most count now (reader_of was q g)
+zeros_took was first most count p q f g now view live some few t q_is =
     rw (← view, live, q_is) (record {
       some = some;
-      few = omega arith;
-      took = flow_took (zeros first most) tt most 0 p f g t (λ s rest len is. zeros_exact most first p s rest len is);
+      few = few;
+      took = flow_took (zeros first count) tt count 0 p f g t (λ s rest len is. zeros_exact count first p s rest len is);
       moves = refl;
     })
 

@@ -285,6 +285,9 @@ pub record Reached (a : Reader) (w : terms.Wrapper) (d : Reader) : Type 0 where
   pub limit : d.extent.limit ≡ a.extent.limit
   pub spells : (first p : ℕ) × (is_wrapped first ≡ true) × SpellsFirst first p × SpellsTo wrapper_and_gap p w d.position
 
+abbrev extent_of : ℕ → ℕ → ℕ → Extent
+extent_of total end limit = record { total = total; end = end; limit = limit }
+
 pub reached : (a : Reader) (w : terms.Wrapper) (c d e : Reader) → Headed a w c → Took (any_bits (8 * (w.offset - 20))) c tt d → EndsAfter (w.offset + w.size) (8 * w.size) d e → Reached a w e
 unfolding wrapper_and_gap
 reached a w c d e t u ends =
@@ -310,10 +313,7 @@ reached a w c d e t u ends =
     }
   where
     extent_is : (x y : Extent) (end : ℕ) → x.total ≡ y.total → x.end ≡ end → x.limit ≡ y.limit → x ≡ record y { end = end }
-    extent_is x y end total ends_at limit = ap (λ (t : ℕ). of t x.end x.limit) total ∙ ap (λ (e : ℕ). of y.total e x.limit) ends_at ∙ ap (λ (l : ℕ). of y.total end l) limit
-
-    abbrev of : ℕ → ℕ → ℕ → Extent
-    of total end limit = record { total = total; end = end; limit = limit }
+    extent_is x y end total ends_at limit = ap (λ (t : ℕ). extent_of t x.end x.limit) total ∙ ap (λ (e : ℕ). extent_of y.total e x.limit) ends_at ∙ ap (λ (l : ℕ). extent_of y.total end l) limit
 
 magic_broke : (e : Extent) (outer : Option terms.Wrapper) (x : Result (ℕ × ℕ × List Bool) grammar.Fault) (reason : Reason) (bit : ℕ) → Breaks e x reason bit → Breaks e (with_magic outer x) reason bit
 magic_broke e outer (Ok x) reason bit b = absurd b

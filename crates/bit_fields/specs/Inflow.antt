@@ -23,6 +23,8 @@ pub record Flow : Type 0 where
   pub at : ℕ
   -- how many bytes of the input come before them
   pub before : ℕ
+  -- how many bytes behind the stream were taken
+  pub over : ℕ
   -- the byte at which the stream ends, unless its source ends before
   pub end : ℕ
   -- the limit on bytes
@@ -43,7 +45,7 @@ place_of f = 8 * f.before + f.at
 
 -- how many bytes were taken from the source
 abbrev pub taken_of : Flow → ℕ
-taken_of f = f.before + length f.carry
+taken_of f = f.before + length f.carry + f.over
 
 -- the unread bits of the stream, up to the limit
 abbrev pub flow_bits : Flow → List Bool
@@ -64,20 +66,20 @@ budget_of f = if f.ended then 0 else (f.limit + 1 - taken_of f)
 
 -- how many unread bits were taken
 abbrev pub carried_of : Flow → ℕ
-carried_of f = 8 * (min (stop_of f) (taken_of f) - f.before) - f.at
+carried_of f = 8 * length f.carry - f.at
 
 -- how many unread bits were taken or lent
 abbrev pub there_of : Flow → ℕ
-there_of f = 8 * (min (stop_of f) (taken_of f + f.lent) - f.before) - f.at
+there_of f = 8 * (length f.carry + f.lent) - f.at
 
 -- the invariant between calls
 pub record IsFlow (f : Flow) : Type 0 where
   pub held : length f.carry ≤ 64
-  pub begun : f.before ≤ stop_of f
-  pub place : f.at ≤ 8 * (min (stop_of f) (taken_of f + f.lent) - f.before)
-  -- bits are read in the carry until all of its bytes are
-  pub carried : 0 < length f.carry → f.at < 8 * length f.carry
-  pub within : 0 < f.lent → taken_of f + f.lent ≤ stop_of f
+  -- the bytes that are there are bytes of the stream
+  pub within : f.before + length f.carry + f.lent ≤ stop_of f
+  pub place : f.at ≤ 8 * (length f.carry + f.lent)
+  -- bytes behind the stream were taken only after all of its own
+  pub over : 0 < f.over → (f.before + length f.carry ≡ stop_of f) × (f.lent ≡ 0)
   -- past the limit there is only the byte that shows that the input is longer
   pub taken : taken_of f ≤ f.limit + 1
   pub limit : f.limit < 2 ^ 35
@@ -130,6 +132,15 @@ pub record TakesBits (n value : ℕ) (old new : Flow) : Type 0 where
   pub left : IsKnown old → flow_bits old ≡ front ++ flow_bits new
   pub total : IsKnown old → total_of new ≡ total_of old
 
+-- the next n bits are there and have this number, and nothing was taken
+pub record ShowsFront (n value : ℕ) (old new : Flow) : Type 0 where
+  pub looks : LooksOn old new
+  pub there : n ≤ there_of old
+  pub front : List Bool
+  pub long : length front ≡ n
+  pub is : value ≡ number front
+  pub begins : IsKnown old → (rest : List Bool) × (flow_bits old ≡ front ++ rest)
+
 -- n bits are not there
 pub record Lacks (n : ℕ) (old new : Flow) : Type 0 where
   pub looks : LooksOn old new
@@ -140,6 +151,7 @@ pub record Drops (old new : Flow) : Type 0 where
   pub incoming : new.incoming ≡ old.incoming
   pub lent : new.lent ≡ old.lent
   pub low : new.at < 8
+  pub carried : carried_of new ≡ carried_of old
   pub place : place_of new ≡ place_of old
   pub taken : taken_of new ≡ taken_of old
   pub end : new.end ≡ old.end

@@ -29,6 +29,7 @@ impl<S: Source> BitReader<S> {
     /// Reads a character in six bits and returns its ASCII code: a letter, a digit, '.' or '_'. Source: "6-bit characters".
     ///
     /// Fewer bits are `Truncated` at the first bit of the field.
+    #[inline(always)]
     pub fn char6(&mut self) -> Result<u64, Fault>
         ensures takes { Takes char6 self.old result self.new }
         ensures only { IsOnly char6 self.old result self.new }

@@ -1,6 +1,5 @@
 ghost use Rattle.std.specs.Prelude.{ℕ, ◌≡◌, ◌+◌, ◌*◌, ◌-◌, ◌<◌, ◌≤◌, ◌^◌, ◌⊎◌, length, true, false, take, drop, [], OnErr, OnOk, IfOk, IfSome, IfNone, Err};
-ghost use Rattle.bit_grammar.specs.Bits.{number};
-ghost use Rattle.bit_fields.specs.Inflow.{IsFlow, IsKnown, KeepsFlow, LooksOn, LostFlow, Shows, Advances, TakesBits, Lacks, Drops, Asks, TakesLate, Waits, SkipsSome, Shortens, Copies, HandsOver, IsSettled, Settles, Drains, stop_of, taken_of, place_of, carried_of, there_of, budget_of, to_ask};
+ghost use Rattle.bit_fields.specs.Inflow.{IsFlow, IsKnown, KeepsFlow, LooksOn, LostFlow, Shows, ShowsFront, Advances, TakesBits, Lacks, Drops, Asks, TakesLate, Waits, SkipsSome, Shortens, Copies, HandsOver, IsSettled, Settles, Drains, stop_of, taken_of, place_of, carried_of, there_of, flow_bits, budget_of, to_ask};
 ghost use Rattle.bit_fields.specs.PlacedView.{placed};
 ghost use Rattle.std.specs.Borrow.{sem};
 ghost use Rattle.bit_fields.specs.Devices.{Looked, Fails, Spends, known_bytes};
@@ -8,6 +7,7 @@ ghost use Rattle.std.specs.Io.BufRead.{Rests};
 
 use crate::placed::PlacedBits;
 use crate::source::{Source, SourceFailed};
+use crate::word::{eight_of, first_eight};
 use std::marker::Model;
 
 /// Why bits are missing.
@@ -21,25 +21,27 @@ pub enum Missing {
     Read,
 }
 
-/// How many bytes the carry has room for.
+/// How many bytes the carry has room for. A load of eight bytes may begin at each of them.
 const CARRY: usize = 64;
 
-/// A source and a place in what it has buffered, up to a limit on bytes.
+/// A source and a place in the bytes of its stream that are there: those that were taken into the carry, and those that the source
+/// lends behind them. There is a limit on bytes.
 ///
-/// Bits are read where the source lends them, and bytes are taken from it once the next field is not there. The carry then has what
-/// is left of them, and what a source gave that lends none.
+/// Bits are read in the carry, and behind it where the source lends them. Bytes are taken once the next field is not there.
 #[derive(Drop)]
 pub struct Inflow<S: Source> {
     source: S,
-    /// How many bytes of the stream behind the carry the source lends.
-    lent: usize,
-    /// How many bytes the carry has. If it has none, bits are read where the source lends them.
-    held: usize,
-    /// How many bits are read of these bytes.
-    at: u64,
-    /// How many bytes of the input come before them.
+    /// How many bytes of the input come before those of the carry.
     before: u64,
-    carry: [u8; CARRY],
+    /// How many bytes the carry has.
+    held: usize,
+    /// How many bytes behind those the source lends.
+    lent: usize,
+    /// How many bits are read of all these.
+    at: u64,
+    carry: [u8; CARRY + 8],
+    /// How many bytes behind the stream were taken.
+    over: u64,
     end: u64,
     limit: u64,
     ended: bool,
@@ -57,6 +59,7 @@ impl<S: Source> Model for Inflow<S> {
       lent = f.lent;
       at = f.at;
       before = f.before;
+      over = f.over;
       end = f.end;
       limit = f.limit;
       ended = f.ended;
@@ -68,6 +71,7 @@ impl<S: Source> Model for Inflow<S> {
       lent = f.lent;
       at = f.at;
       before = f.before;
+      over = f.over;
       end = f.end;
       limit = f.limit;
       ended = f.ended;
@@ -75,7 +79,12 @@ impl<S: Source> Model for Inflow<S> {
 }
 
 /// Copies bytes that are lent, at most `most`, into a carry behind the `held` bytes that it has, and returns how many.
-fn copy_lent<S: Source>(source: &mut S, most: usize, carry: &mut [u8; CARRY], held: usize) -> usize
+fn copy_lent<S: Source>(
+    source: &mut S,
+    most: usize,
+    carry: &mut [u8; CARRY + 8],
+    held: usize,
+) -> usize
     requires { held ≤ 64 }
     ensures looked { Looked (S.incoming source.old) (S.incoming source.new) }
     ensures same { most ≡ 0 → S.incoming source.new ≡ S.incoming source.old }
@@ -104,6 +113,7 @@ impl<S: Source> Inflow<S> {
           lent = 0;
           at = 0;
           before = 0;
+          over = 0;
           end = u64.MAX;
           limit = limit;
           ended = false;
@@ -111,11 +121,12 @@ impl<S: Source> Inflow<S> {
     {
         Inflow {
             source,
-            lent: 0,
-            held: 0,
-            at: 0,
             before: 0,
-            carry: [0; CARRY],
+            held: 0,
+            lent: 0,
+            at: 0,
+            carry: [0; CARRY + 8],
+            over: 0,
             end: u64::MAX,
             limit,
             ended: false,
@@ -164,14 +175,11 @@ impl<S: Source> Inflow<S> {
     /// Whether there are bytes that are lent and of which all bits are read.
     #[inline(always)]
     fn lags(&self) -> bool
-        ensures yes { result ≡ true → (self.now.carry ≡ []) × (8 ≤ self.now.at) }
-        ensures no { result ≡ false → self.now.carry ≡ [] → self.now.at < 8 }
+        ensures yes { result ≡ true → 8 * length self.now.carry + 8 ≤ self.now.at }
+        ensures no { result ≡ false → self.now.at < 8 * length self.now.carry + 8 }
         ensures settled { result ≡ false → IsSettled self.now }
     {
-        if self.held > 0 {
-            return false;
-        }
-        self.at >= 8
+        self.at >= 8 * self.held as u64 + 8
     }
 
     /// At which byte the stream ends, or the limit.
@@ -187,7 +195,16 @@ impl<S: Source> Inflow<S> {
     fn taken(&self) -> u64
         ensures { result ≡ taken_of self.now }
     {
-        self.before + self.held as u64
+        self.before + self.held as u64 + self.over
+    }
+
+    /// How many bits were taken or are lent.
+    #[inline(always)]
+    pub fn there(&self) -> u64
+        ensures there { result ≡ there_of self.now }
+        ensures known { IsKnown self.now → result ≤ length (flow_bits self.now) }
+    {
+        8 * (self.held + self.lent) as u64 - self.at
     }
 
     /// The bits that are there, possibly none. The source is asked for nothing.
@@ -203,26 +220,26 @@ impl<S: Source> Inflow<S> {
         }
     }
 
-    /// Whether the carry is empty, and the source lends bits that are not read.
+    /// Whether the bits of the carry are read, and the source lends some that are not.
     #[inline(always)]
     fn is_in_place(&self) -> bool
-        ensures { result ≡ true → (self.now.carry ≡ []) × (self.now.at < 8 * self.now.lent) }
+        ensures { result ≡ true → (8 * length self.now.carry ≤ self.now.at)
+            × (self.now.at < 8 * (length self.now.carry + self.now.lent)) }
     {
-        if self.held > 0 {
-            return false;
-        }
-        self.at < 8 * self.lent as u64
+        let held = 8 * self.held as u64;
+        held <= self.at && self.at < held + 8 * self.lent as u64
     }
 
     /// The bits that the source lends.
     #[inline(always)]
     fn in_place(&mut self) -> PlacedBits<'_>
-        requires empty { self.old.carry ≡ [] }
-        requires some { self.old.at < 8 * self.old.lent }
+        requires behind { 8 * length self.old.carry ≤ self.old.at }
+        requires some { self.old.at < 8 * (length self.old.carry + self.old.lent) }
         ensures* shows { sem 𝓛 (Rests (the_row S.row S.Source) self.entry
             (λ new. Shows self.old (placed result) new)) }
     {
-        let (start, at, lent) = (8 * self.before, self.at, self.lent);
+        let held = 8 * self.held as u64;
+        let (start, at, lent) = (8 * self.before + held, self.at - held, self.lent);
         let bytes = self.source.lend();
         PlacedBits::at_most(&bytes[..lent.min(bytes.len())], start, at)
     }
@@ -233,27 +250,46 @@ impl<S: Source> Inflow<S> {
         ensures* shows { sem 𝓛 (Rests (the_row S.row S.Source) self.entry
             (λ new. Shows self.old (placed result) new)) }
     {
-        let room = (self.end.min(self.limit) - self.before) as usize;
         let count = copy_lent(&mut self.source, self.lent, &mut self.carry, self.held);
-        let filled = room.min(self.held + count);
-        PlacedBits::at_most(&self.carry[..filled], 8 * self.before, self.at)
+        PlacedBits::at_most(&self.carry[..self.held + count], 8 * self.before, self.at)
     }
 
-    /// Takes the number of the first n bits, if they are there.
+    /// Whether n bits are in the carry.
     #[inline(always)]
-    pub fn take(&mut self, n: u32) -> Option<u64>
+    pub fn holds(&self, n: u32) -> bool
+        ensures { result ≡ true → self.now.at + n ≤ 8 * length self.now.carry }
+    {
+        self.at + u64::from(n) <= 8 * self.held as u64
+    }
+
+    /// The number of the first n bits, which are in the carry.
+    #[inline(always)]
+    pub fn held_front(&self, n: u32) -> u64
+        requires few { n ≤ 32 }
+        requires there { self.now.at + n ≤ 8 * length self.now.carry }
+        ensures shows { ShowsFront n result self.now self.now }
+        ensures below { result < 2 ^ n }
+    {
+        let rest = &self.carry[(self.at >> 3) as usize..];
+        eight_of(rest) >> (self.at & 7) & ((1 << n) - 1)
+    }
+
+    /// The number of the first n bits, if they are there.
+    #[inline(always)]
+    pub fn front(&mut self, n: u32) -> Option<u64>
         requires { n ≤ 32 }
-        ensures some { IfSome result (λ value. TakesBits n value self.old self.new) }
+        ensures looks { LooksOn self.old self.new }
+        ensures some { IfSome result (λ value. ShowsFront n value self.old self.new) }
         ensures below { IfSome result (λ value. value < 2 ^ n) }
         ensures none { IfNone result (Lacks n self.old self.new) }
     {
-        match self.bits().part(n) {
-            Some(value) => {
-                self.advance(u64::from(n));
-                Some(value)
-            }
-            None => None,
+        if self.holds(n) {
+            return Some(self.held_front(n));
         }
+        if self.lent == 0 {
+            return None;
+        }
+        self.bits().part(n)
     }
 
     /// Moves on by bits that are there.
@@ -262,39 +298,16 @@ impl<S: Source> Inflow<S> {
         requires { bits ≤ there_of self.old }
         ensures { Advances bits self.old self.new }
     {
-        if self.held > 0 {
-            self.advance_carry(bits);
-            return;
-        }
         self.at += bits;
     }
 
-    /// The same in the carry, and goes on behind it if all of its bytes are read.
-    #[inline(never)]
-    fn advance_carry(&mut self, bits: u64)
-        requires { bits ≤ there_of self.old }
-        ensures { Advances bits self.old self.new }
-    {
-        let at = self.at + bits;
-        let held = 8 * self.held as u64;
-        if at < held {
-            self.at = at;
-            return;
-        }
-        self.at = at - held;
-        self.before += self.held as u64;
-        self.held = 0;
-    }
-
     /// Asks the source for more bytes, since those that are there do not suffice: once, or less if some that it lends are not taken.
+    #[inline(never)]
     fn ask(&mut self) -> Result<(), Missing>
         requires { carried_of self.old < 32 }
         ensures asks { Asks self.old self.new result }
         ensures fewer { OnOk result (to_ask self.new < to_ask self.old) }
     {
-        if self.ended {
-            return Err(Missing::End);
-        }
         if self.lags() {
             return match self.pass_read() {
                 Ok(()) => Ok(()),
@@ -303,7 +316,10 @@ impl<S: Source> Inflow<S> {
         }
         self.drop_read();
         if self.lent > 0 {
-            return self.take_lent();
+            return self.pull();
+        }
+        if self.ended {
+            return Err(Missing::End);
         }
         if self.taken() >= self.stop() {
             return Err(self.past());
@@ -311,68 +327,41 @@ impl<S: Source> Inflow<S> {
         self.more()
     }
 
-    /// Takes bytes that are lent and of which all bits are read.
+    /// Takes bytes that are lent and of which all bits are read. Those of the carry are dropped.
     fn pass_read(&mut self) -> Result<(), SourceFailed>
-        requires empty { self.old.carry ≡ [] }
-        requires some { 8 ≤ self.old.at }
+        requires { 8 * length self.old.carry + 8 ≤ self.old.at }
         ensures ok { OnOk result (KeepsFlow self.old self.new × (to_ask self.new < to_ask self.old)) }
         ensures err { OnErr result (LostFlow self.old self.new) }
     {
-        let whole = (self.at / 8) as usize;
+        let whole = (self.at / 8) as usize - self.held;
         let mut count = self.source.pass(whole)?;
         if count == 0 {
             count = whole; // it has lent them
         }
+        let read = (self.held + count) as u64;
+        self.before += read;
+        self.held = 0;
         self.lent -= count;
-        self.before += count as u64;
-        self.at -= 8 * count as u64;
+        self.at -= 8 * read;
         Ok(())
     }
 
     /// Drops the bytes of the carry of which all bits are read.
+    #[inline(always)]
     fn drop_read(&mut self)
-        requires { self.old.carry ≡ [] → self.old.at < 8 }
+        requires few { carried_of self.old < 32 }
+        requires low { self.old.at < 8 * length self.old.carry + 8 }
         ensures { Drops self.old self.new }
     {
         let whole = (self.at / 8) as usize;
-        if whole == 0 {
-            return;
-        }
-        let mut rest = [0; CARRY];
-        let left = self.held - whole;
-        rest[..left].copy_from_slice(&self.carry[whole..self.held]);
-        self.carry = rest;
-        self.held = left;
+        let rest = first_eight(&self.carry[whole..]);
+        self.carry[..8].copy_from_slice(&rest);
         self.before += whole as u64;
+        self.held -= whole;
         self.at -= 8 * whole as u64;
     }
 
-    /// Takes bytes that are lent into the carry; or pulls some, if they are lent no more.
-    fn take_lent(&mut self) -> Result<(), Missing>
-        requires few { carried_of self.old < 32 }
-        requires low { self.old.at < 8 }
-        requires some { 0 < self.old.lent }
-        requires going { self.old.ended ≡ false }
-        ensures asks { Asks self.old self.new result }
-        ensures fewer { OnOk result (to_ask self.new < to_ask self.old) }
-    {
-        let copied = copy_lent(&mut self.source, self.lent, &mut self.carry, self.held);
-        if copied == 0 {
-            return self.pull();
-        }
-        let mut count = match self.source.pass(copied) {
-            Ok(count) => count,
-            Err(SourceFailed) => return Err(Missing::Read),
-        };
-        if count == 0 {
-            count = copied; // it has lent them
-        }
-        self.held += count;
-        self.lent -= count;
-        Ok(())
-    }
-
-    /// Looks for bytes that are lent, and pulls some if there are none.
+    /// Looks for bytes that are lent, and pulls some if the carry has room for all of them.
     fn more(&mut self) -> Result<(), Missing>
         requires few { carried_of self.old < 32 }
         requires low { self.old.at < 8 }
@@ -388,10 +377,11 @@ impl<S: Source> Inflow<S> {
             Err(SourceFailed) => return Err(Missing::Read),
         }
         let room = self.end.min(self.limit) - (self.before + self.held as u64);
-        self.lent = self.source.lend().len().min(room as usize);
-        if self.lent == 0 {
+        let lent = self.source.lend().len().min(room as usize);
+        if lent < CARRY {
             return self.pull();
         }
+        self.lent = lent;
         Ok(())
     }
 
@@ -406,22 +396,20 @@ impl<S: Source> Inflow<S> {
     {
         let room = self.end.min(self.limit) - (self.before + self.held as u64);
         let most = CARRY.min(self.held + room as usize);
-        let count = match self.source.pull(&mut self.carry[self.held..most]) {
+        let mut count = match self.source.pull(&mut self.carry[self.held..most]) {
             Ok(count) => count,
             Err(SourceFailed) => return Err(Missing::Read),
         };
-        if count > 0 {
-            self.held += count;
-            self.lent = self.lent.saturating_sub(count);
-            return Ok(());
+        if count == 0 {
+            if self.lent == 0 {
+                self.ended = true; // and is not asked again
+                return Err(Missing::End);
+            }
+            count = 1; // it has lent this byte
         }
-        if self.lent > 0 {
-            self.held += 1; // a byte that it has lent
-            self.lent -= 1;
-            return Ok(());
-        }
-        self.ended = true; // and is not asked again
-        Err(Missing::End)
+        self.held += count;
+        self.lent = self.lent.saturating_sub(count);
+        Ok(())
     }
 
     /// At the limit on bytes, or at the end that a wrapper named: whether the input goes on past the limit.
@@ -436,34 +424,35 @@ impl<S: Source> Inflow<S> {
         if self.end <= self.limit {
             return Missing::End;
         }
-        if self.before + self.held as u64 > self.limit {
+        if self.over > 0 {
             return Missing::Limit;
         }
-        let count = match self.source.pull(&mut self.carry[self.held..self.held + 1]) {
-            Ok(count) => count,
-            Err(SourceFailed) => return Missing::Read,
-        };
-        if count == 0 {
-            self.ended = true;
-            return Missing::End;
+        match self.source.pull(&mut [0]) {
+            Ok(0) => {
+                self.ended = true;
+                Missing::End
+            }
+            Ok(_) => {
+                self.over = 1;
+                Missing::Limit
+            }
+            Err(SourceFailed) => Missing::Read,
         }
-        self.held += 1;
-        Missing::Limit
     }
 
     /// Takes the number of the first n bits, and asks the source while they are not there.
-    #[cold]
-    #[inline(never)]
+    #[inline(always)]
     pub fn take_late(&mut self, n: u32) -> Result<u64, Missing>
         requires { n ≤ 32 }
         ensures takes { TakesLate n self.old self.new result }
         ensures below { IfOk result (λ value. value < 2 ^ n) }
     {
         loop {
-            match self.take(n) {
-                Some(value) => return Ok(value),
-                None => self.ask()?,
+            if let Some(value) = self.front(n) {
+                self.advance(u64::from(n));
+                return Ok(value);
             }
+            self.ask()?;
         }
     }
 
@@ -472,7 +461,7 @@ impl<S: Source> Inflow<S> {
         ensures { Waits self.old self.new result }
     {
         loop {
-            let count = self.bits().len();
+            let count = self.there();
             if count > 0 {
                 return Ok(count);
             }
@@ -494,21 +483,24 @@ impl<S: Source> Inflow<S> {
     pub fn shorten(&mut self, end: u64)
         requires most { end < 2 ^ 60 }
         requires least { place_of self.old ≤ 8 * end }
+        requires first { self.old.limit ≤ self.old.end }
         ensures shortens { Shortens end self.old self.new }
         ensures limit { self.old.limit < 2 ^ 35 }
     {
-        let stop = end.min(self.limit);
-        let room = stop.saturating_sub(self.before + self.held as u64);
-        let lent = self.lent.min(room as usize);
-        self.end = end;
+        let room = (end.min(self.limit) - self.before) as usize;
+        let held = self.held.min(room);
+        let lent = self.lent.min(room - held);
+        self.over += (self.held - held) as u64;
+        self.held = held;
         self.lent = lent;
+        self.end = end;
     }
 
     /// Takes all bytes that the source still has. Nothing is read any more.
     pub fn drain(&mut self) -> Result<(), Missing>
         ensures { Drains self.old self.new result }
     {
-        let mut taken = self.before + self.held as u64;
+        let mut taken = self.before + self.held as u64 + self.over;
         self.lent = 0;
         self.at = 0;
         while !self.ended {

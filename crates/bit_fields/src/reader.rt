@@ -1,4 +1,4 @@
-ghost use Rattle.std.specs.Prelude.{◌≡◌, ◌+◌, ◌*◌, ◌-◌, ◌<◌, ◌≤◌, ◌^◌, ◌%◌, length, true, false, take, OnErr, OnOk, IfOk, IfErr, IfSome, MatchOption, ◌⊎◌};
+ghost use Rattle.std.specs.Prelude.{ℕ, ◌≡◌, ◌+◌, ◌*◌, ◌-◌, ◌<◌, ◌≤◌, ◌^◌, ◌/◌, ◌%◌, length, true, false, take, OnErr, OnOk, IfOk, IfErr, IfSome, MatchOption, ◌⊎◌};
 ghost use Rattle.bit_grammar.specs.Fields.{fixed, vbr, align32, chunks, padding_length, zeros};
 ghost use Rattle.bit_grammar.specs.Terms.{chunk_limit};
 ghost use Rattle.bit_grammar.specs.Grammar.{at, test};
@@ -9,6 +9,7 @@ ghost use Rattle.bit_fields.specs.Devices.{Fails};
 ghost use Rattle.bit_fields.specs.PlacedView.{placed};
 ghost use Rattle.bit_grammar.specs.Input.{version, offset, wrapper, any_bits, inner_magic};
 ghost use Rattle.bit_fields.specs.Reader.{Extent, AsksByChunk, EndsAfter, FailsWithin, Returned, TellsBytes, Takes, Took, Why, IsOnly, NeedsNoMemory, within, told_by, failed_reader, stopped_at};
+ghost use Rattle.bit_fields.specs.Short.{TookNothing};
 ghost use Rattle.bit_fields.specs.Opening.{fresh, OpenedInput, Declines, Opens, wrapper_told};
 ghost use Rattle.bit_fields.specs.Ending.{reach_of, LooksForEnd, Closes, IsThrough};
 ghost use Rattle.bit_fields.specs.Inside.{gap_of, part_of, number_above, fault_of_missing, TookGap, TookZeros};
@@ -167,6 +168,7 @@ impl<S: Source> BitReader<S> {
         requires end { self.old.extent.end ≡ 2 ^ 64 - 1 }
         ensures { EndsAfter (offset + size) (8 * size) self.old self.new }
     {
+        self.inflow.is_flow();
         self.inflow.shorten(u64::from(offset) + u64::from(size));
     }
 
@@ -285,32 +287,31 @@ impl<S: Source> BitReader<S> {
         ensures stays { self.old.live ≡ true → OnErr result (self.new.position ≡ first) }
         ensures moves { OnOk result (self.new.position ≡ self.old.position + n) }
     {
-        if !self.live {
-            return Err(Fault::Failed);
+        if self.live && self.inflow.holds(n) {
+            let value = self.inflow.held_front(n);
+            self.inflow.advance(u64::from(n));
+            self.position += u64::from(n);
+            return Ok(value);
         }
-        match self.inflow.take(n) {
-            Some(value) => {
-                self.position += u64::from(n);
-                Ok(value)
-            }
-            None => self.late_part(n, first),
-        }
+        self.late_part(n, first)
     }
 
-    /// The same, if not all of the bits are there.
+    /// The same, also where the bits are not in the carry.
     #[cold]
     #[inline(never)]
     fn late_part(&mut self, n: u32, first: u64) -> Result<u64, Fault>
-        requires live { self.old.live ≡ true }
         requires some { 0 < n }
         requires few { n ≤ 32 }
         ensures takes { Takes (part_of first n) self.old result self.new }
         ensures memory { NeedsNoMemory result }
         ensures asks { FailsWithin (self.old.position + n) result self.new }
         ensures below { IfOk result (λ value. value < 2 ^ n) }
-        ensures stays { OnErr result (self.new.position ≡ first) }
+        ensures stays { self.old.live ≡ true → OnErr result (self.new.position ≡ first) }
         ensures moves { OnOk result (self.new.position ≡ self.old.position + n) }
     {
+        if !self.live {
+            return Err(Fault::Failed);
+        }
         match self.inflow.take_late(n) {
             Ok(value) => {
                 self.position += u64::from(n);
@@ -326,11 +327,30 @@ impl<S: Source> BitReader<S> {
         ensures* shows { sem 𝓛 (Rests (the_row S.row S.Source) self.entry
             (λ new. ShowsBits self.old (placed result) new)) }
     {
-        if self.live {
-            self.inflow.bits()
+        if self.is_live() {
+            self.live_bits()
         } else {
-            PlacedBits::none(self.position)
+            self.no_bits()
         }
+    }
+
+    /// The bits that are there, of a live reader.
+    #[inline(always)]
+    fn live_bits(&mut self) -> PlacedBits<'_>
+        requires live { self.old.live ≡ true }
+        ensures* shows { sem 𝓛 (Rests (the_row S.row S.Source) self.entry
+            (λ new. ShowsBits self.old (placed result) new)) }
+    {
+        self.inflow.bits()
+    }
+
+    /// No bits.
+    #[inline(always)]
+    fn no_bits(&mut self) -> PlacedBits<'_>
+        ensures* shows { sem 𝓛 (Rests (the_row S.row S.Source) self.entry
+            (λ new. ShowsBits self.old (placed result) new)) }
+    {
+        PlacedBits::none(self.position)
     }
 
     /// Moves on by bits that are there. The source is asked for nothing.
@@ -393,6 +413,7 @@ impl<S: Source> BitReader<S> {
     ///
     /// Fewer bits are `Truncated` at the first bit of the field. The source is asked only while bits of the field are
     /// missing.
+    #[inline(always)]
     pub fn fixed(&mut self, n: u32) -> Result<u64, Fault>
         requires some { 0 < n }
         requires few { n ≤ 32 }
@@ -502,13 +523,32 @@ impl<S: Source> BitReader<S> {
         ensures asks { FailsWithin (self.old.position + most) result self.new }
         ensures stays { OnErr result (self.new.position ≡ first) }
     {
-        if let Some(0) = self.inflow.bits().part(most) {
-            self.inflow.advance(u64::from(most));
-            self.position += u64::from(most);
-            return Ok(most);
+        let count = self.held_zeros(most);
+        if count > 0 {
+            return Ok(count);
         }
         self.one_zero(first)?;
         Ok(1)
+    }
+
+    /// Takes the bits that are there, at most `most`, if they are zeros, and returns how many. The source is asked for nothing.
+    fn held_zeros(&mut self, most: u32) -> u32
+        requires few { most < 32 }
+        requires live { self.old.live ≡ true }
+        ensures some { 0 < result → (first : ℕ) → TookZeros first most result self.old self.new }
+        ensures none { result ≡ 0 → TookNothing self.old self.new }
+        ensures place { self.new.position ≡ self.old.position + result }
+    {
+        let count = self.inflow.there().min(u64::from(most)) as u32;
+        if count == 0 {
+            return 0;
+        }
+        if let Some(0) = self.inflow.front(count) {
+            self.inflow.advance(u64::from(count));
+            self.position += u64::from(count);
+            return count;
+        }
+        0
     }
 
     /// Takes one zero of a padding that began at `first`.
@@ -573,8 +613,7 @@ impl<S: Source> BitReader<S> {
         }
         self.live = false;
         self.inflow.is_flow();
-        let end = self.inflow.end();
-        if end < u64::MAX && self.position / 8 < end {
+        if !self.fills_wrapper() {
             return Err(Fault::Refused {
                 reason: Reason::WrapperSize,
                 bit: 96,
@@ -582,12 +621,22 @@ impl<S: Source> BitReader<S> {
         }
         match self.inflow.drain() {
             Ok(()) => Ok(()),
-            Err(Missing::Limit) => Err(Fault::Refused {
-                reason: Reason::TooLong,
-                bit: 8 * self.inflow.limit(),
-            }),
-            Err(_) => Err(Fault::Read),
+            Err(missing) => Err(self.fault_of(missing, self.position)),
         }
+    }
+
+    /// Whether the bytes before the position fill the wrapper of the stream, if it has one.
+    fn fills_wrapper(&self) -> bool
+        ensures yes { result ≡ true → self.now.extent.end < 2 ^ 64 - 1
+            → self.now.extent.end ≤ self.now.position / 8 }
+        ensures no { result ≡ false → (self.now.extent.end < 2 ^ 64 - 1)
+            × (self.now.position / 8 < self.now.extent.end) }
+    {
+        let end = self.inflow.end();
+        if end == u64::MAX {
+            return true;
+        }
+        end <= self.position / 8
     }
 
     /// Marks the reader as failed, for a judgement of the caller's, and returns the fault.

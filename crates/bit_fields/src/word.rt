@@ -38,3 +38,14 @@ pub fn eight_of(bytes: &[u8]) -> u64
     ];
     word_of(eight, 8)
 }
+
+/// The first eight bytes of a slice, which has them.
+#[inline(always)]
+pub fn first_eight(bytes: &[u8]) -> [u8; 8]
+    requires { 8 ≤ length bytes.now }
+    ensures { result ≡ take 8 bytes.now }
+{
+    [
+        bytes[0], bytes[1], bytes[2], bytes[3], bytes[4], bytes[5], bytes[6], bytes[7],
+    ]
+}
