@@ -17,19 +17,19 @@ use Rattle.bit_fields.proofs.LentParts.{part_passed, part_told}
 
 -- ---- one part
 
-pub missed_within : {A : Type 0} (n first p : ℕ) (was : Bool) (f g : Flow) (what : Missing) (now new : Reader) (fault : Fault) → was ≡ true → IsReader was p f → reader_of was p f ≡ now → Misses n f g what → fault ≡ fault_of_missing what first g.limit → new ≡ stopped_at (reader_of was p g) first → FailsWithin {A = A} (now.position + n) (Err fault) new
-missed_within n first p was f g missing.End now new fault live is view out fault_is new_is = rw fault_is tt
-missed_within n first p was f g missing.Limit now new fault live is view out fault_is new_is = rw fault_is tt
-missed_within n first p was f g missing.Read now new fault live is view out fault_is new_is = rw (fault_is, new_is, ← view) (omega (arith, out.given, is live))
+pub missed_within : (A : Type 0) (n first p : ℕ) (was : Bool) (f g : Flow) (what : Missing) (now new : Reader) (fault : Fault) → was ≡ true → IsReader was p f → reader_of was p f ≡ now → Misses n f g what → fault ≡ fault_of_missing what first g.limit → new ≡ stopped_at (reader_of was p g) first → FailsWithin {A = A} (now.position + n) (Err fault) new
+missed_within A n first p was f g missing.End now new fault live is view out fault_is new_is = rw fault_is tt
+missed_within A n first p was f g missing.Limit now new fault live is view out fault_is new_is = rw fault_is tt
+missed_within A n first p was f g missing.Read now new fault live is view out fault_is new_is = rw (fault_is, new_is, ← view) (omega (arith, out.given, is live))
 
 -- the same fault of a call for more bits
-pub fails_too : {A B : Type 0} (bit more : ℕ) (fault : Fault) (new : Reader) → bit ≤ more → FailsWithin {A = A} bit (Err fault) new → FailsWithin {A = B} more (Err fault) new
-fails_too bit more (Refused reason place) new le h = tt
-fails_too bit more Read new le h = omega (arith, h, le)
-fails_too bit more Memory new le h = tt
-fails_too bit more Failed new le h = tt
-fails_too bit more Write new le h = tt
-fails_too bit more OutputTooLong new le h = tt
+pub fails_too : (A B : Type 0) (bit more : ℕ) (fault : Fault) (new : Reader) → bit ≤ more → FailsWithin {A = A} bit (Err fault) new → FailsWithin {A = B} more (Err fault) new
+fails_too A B bit more (Refused reason place) new le h = tt
+fails_too A B bit more Read new le h = omega (arith, h, le)
+fails_too A B bit more Memory new le h = tt
+fails_too A B bit more Failed new le h = tt
+fails_too A B bit more Write new le h = tt
+fails_too A B bit more OutputTooLong new le h = tt
 
 -- ---- chunks
 

@@ -146,12 +146,13 @@ lost f i j is was going no_over none =
 -- ---- bytes of the carry are dropped
 
 -- the bytes of the carry that were moved to its front
-pub moved_front : (whole held : ℕ) (old post : List ℕ) → whole ≤ held → held ≤ whole + 8 → held ≤ length old → take (held - whole) (take 8 (drop whole old) ++ post) ≡ drop whole (take held old)
-moved_front whole held old post few near there =
+pub moved_front : (whole held m : ℕ) (old new post : List ℕ) → whole ≤ held → held ≤ whole + 8 → held ≤ length old → new ≡ take 8 (take m (drop whole old)) → 8 ≤ m → take (held - whole) (new ++ post) ≡ drop whole (take held old)
+moved_front whole held m old new post few near there new_is wide =
     let left : ℕ = held - whole in
     let all : whole + left ≡ held = omega (arith, few) in
+    let eight : new ≡ take 8 (drop whole old) = new_is ∙ take-take 8 m (drop whole old) wide in
     let len : left ≤ length (take 8 (drop whole old)) = omega (arith, length-take 8 (drop whole old), length-drop whole old, there, near) in
-    take-append-le left (take 8 (drop whole old)) post len ∙ take-take left 8 (drop whole old) (omega (arith, near)) ∙ sym (drop-take whole left old) ∙ ap (λ (n : ℕ). drop whole (take n old)) all
+    ap (λ (b : List ℕ). take left (b ++ post)) eight ∙ take-append-le left (take 8 (drop whole old)) post len ∙ take-take left 8 (drop whole old) (omega (arith, near)) ∙ sym (drop-take whole left old) ∙ ap (λ (n : ℕ). drop whole (take n old)) all
 
 pub drops : (f : Flow) (held whole : ℕ) (rest : List ℕ) → IsFlow f → length f.carry ≡ held → whole ≡ f.at / 8 → f.at < 8 * held + 8 → rest ≡ drop whole f.carry
     → (g : Flow) → g ≡ record f { carry = rest; at = f.at - 8 * whole; before = f.before + whole } → Drops f g × IsFlow g
@@ -272,6 +273,11 @@ pulled_unseen f i j count into is going free within zero_given lent room gave =
       bytes = λ k. absurd (not_known k);
     }
 
+-- what a pull gave, or a byte that the source lent
+pub pulled_any : (f : Flow) (i j : Incoming) (given count : ℕ) (into : List ℕ) → f.incoming ≡ lending f.lent i → f.ended ≡ false → length f.carry + length into ≤ 64 → taken_of f + length into ≤ stop_of f → 0 < length into → ((given ≡ 0) × (count ≡ 1) × (0 < f.lent)) ⊎ ((given ≡ 0 → ⊥) × (count ≡ given)) → Gave i j given into → (count ≤ length into) × Joins f (take count into) (f.lent - count) j
+pulled_any f i j given count into is going free within room (inl unseen) gave = (omega (arith, unseen.1, room), rw (unseen.1) (pulled_unseen f i j given into is going (omega (arith, free, room)) (omega (arith, within, room)) unseen.0 unseen.2 room gave))
+pulled_any f i j given count into is going free within room (inr some) gave = (omega (arith, some.1, gave.fits), rw (some.1) (pulled f i j given into is going free within some.0 gave))
+
 -- bytes that a source shows, and the front of what it has
 pub shown_front : (o : Option (List ℕ)) (shown : List ℕ) → Begins o shown → IsSome o → take (length shown) (known_bytes o) ≡ shown
 shown_front None shown front known = absurd cc
@@ -294,6 +300,37 @@ copies_so to_come held count old new shown post there few new_is front =
     shorter (Some all) front =
         let n : length (take count shown) ≡ count = length-take-le count shown few in
         ap (λ (m : ℕ). take m all) n ∙ sym (take-take count (length shown) all (omega (arith, few))) ∙ ap (take count) front
+
+-- bytes that the source lends from now on
+pub lends : (f : Flow) (i j l : Incoming) (shown : List ℕ) (lent : ℕ) → f.incoming ≡ lending f.lent i → IsFlow f → f.ended ≡ false → f.lent ≡ 0 → taken_of f < stop_of f → Looked i j → Looked j l → Begins j.to_come shown → lent ≤ length shown → lent + taken_of f ≤ stop_of f → 0 < lent
+    → (g : Flow) → g ≡ record f { incoming = lending lent l; lent = lent } → KeepsFlow f g × IsFlow g × (to_ask g < to_ask f)
+lends f i j l shown lent is was going none_lent some look lend front few room more g g_is =
+    let n : ℕ = f.limit + 1 - taken_of f in
+    let none : f.over ≡ 0 = elim (cases_lt 0 f.over) [ inl over ↦ absurd (omega (arith, (was.over over).0, some)) | inr no ↦ omega (arith, no) ] in
+    let told : IsSome i.to_come → IsSome j.to_come = λ k. (kept i.to_come j.to_come look.bytes k).0 in
+    let same : IsSome i.to_come → known_bytes i.to_come ≡ known_bytes l.to_come = λ k. (kept i.to_come j.to_come look.bytes k).1 ∙ (kept j.to_come l.to_come lend.bytes (told k)).1 in
+    let still : StillLent f.lent lent i l = λ k le. omega (arith, few, ap length (shown_front j.to_come shown front (told k)), length-take (length shown) (known_bytes j.to_come), ap length (kept j.to_come l.to_come lend.bytes (told k)).1) in
+    let bytes : IsKnown f → known_bytes (lending lent l).to_come ≡ known_bytes f.incoming.to_come = λ k. lent_after f.lent lent i l still (known_so f i is k) ∙ sym (same (lent_known f.lent i (known_so f i is k)).0) ∙ sym (bytes_so f i is k) in
+    rw g_is (
+      record {
+        end = refl;
+        limit = refl;
+        place = refl;
+        spends = rw (going, is) (spends_lent i l f.lent lent n n (Spends-trans i n j n l n (looked_spends i j n look) (looked_spends j l n lend)) still);
+        left = λ k. ap (λ (b : List ℕ). drop f.at (bits_of_bytes (take (stop_of f - f.before) (f.carry ++ b)))) (bytes k);
+        total = λ k. ap (λ (b : List ℕ). taken_of f + length b) (bytes k);
+      },
+      record {
+        held = was.held;
+        within = omega (arith, room, none);
+        place = omega (arith, was.place, none_lent);
+        over = λ over. absurd (omega (arith, over, none));
+        taken = was.taken;
+        limit = was.limit;
+        ended = λ e. absurd (false≢true (sym going ∙ e));
+      },
+      omega (arith, none_lent, more),
+    )
 
 -- ---- no more bytes come
 
@@ -319,8 +356,8 @@ stops_at_limit f was at lt over =
     record { keeps = Keeps-refl f; left = omega (arith, flow_length f, all); cut = and_from (ltb f.limit (total_of f)) (ltb f.limit f.end) (lt-ltb f.limit (total_of f) (omega (arith, over, all, lt))) (lt-ltb f.limit f.end lt) }
 
 -- the source returns now that it is at its end
-pub ends_here : (f : Flow) (i j : Incoming) (count : ℕ) (into : List ℕ) → f.incoming ≡ lending f.lent i → IsFlow f → f.ended ≡ false → f.lent ≡ 0 → taken_of f ≤ f.limit → count ≡ 0 → 0 < length into → Gave i j count into → (g : Flow) → g ≡ record f { incoming = lending f.lent j; ended = true } → NoMore f g false × IsFlow g
-ends_here f i j count into is was going none_lent le zero_given room gave g g_is =
+pub ends_here : (f : Flow) (i j : Incoming) (count : ℕ) (into : List ℕ) → f.incoming ≡ lending f.lent i → IsFlow f → f.ended ≡ false → f.lent ≡ 0 → taken_of f ≤ f.limit → count ≡ 0 → 0 < length into → Gave i j count into → (carry : List ℕ) → carry ≡ f.carry → (g : Flow) → g ≡ record f { carry = carry; incoming = lending f.lent j; ended = true } → NoMore f g false × IsFlow g
+ends_here f i j count into is was going none_lent le zero_given room gave carry carry_is g g_is =
     let given : Gave i j 0 into = subst (λ (n : ℕ). Gave i j n into) zero_given gave in
     let end = given.end refl room in
     let none : known_bytes j.to_come ≡ [] = at_end j.to_come end in
@@ -329,7 +366,7 @@ ends_here f i j count into is was going none_lent le zero_given room gave g g_is
     let before : IsKnown f → known_bytes f.incoming.to_come ≡ [] = λ k. bytes_so f i is k ∙ nothing (lent_known f.lent i (known_so f i is k)).0 in
     let after : known_bytes (lending f.lent j).to_come ≡ [] = at_end (lending f.lent j).to_come (lent_at_end f.lent j end) in
     let later : Flow = record f { incoming = lending f.lent j; ended = true } in
-    rw g_is (
+    rw (g_is, carry_is) (
       record {
         keeps = record {
           end = refl;

@@ -3,22 +3,23 @@ use Rattle.std.proofs.Common.{◌≡◌, ℕ, zero, suc, ◌+◌, ◌*◌, ◌-�
 use Rattle.std.proofs.lemmas.Bool.{false≢true, cases_lt}
 use Rattle.std.proofs.lemmas.List.{take_at, drop_at, append-nil, length-append, length-take, length-take-le, length-drop, take-append-drop, take-append-le, drop-append-le, drop-take, nil_from_length}
 use Rattle.std.proofs.Math.Seq.{take-append-add}
-use Rattle.std.specs.Prelude.{IsSome}
+use Rattle.std.specs.Prelude.{IsSome, IfSome, IfNone}
 use Rattle.std.specs.Io.KnownBytes.{IsAtEnd, Keeps}
 use Rattle.bit_grammar.specs.Bits.{number, bits_of_bytes}
 use Rattle.bit_fields.specs.Buffered.{BufferedBits}
-use Rattle.bit_fields.specs.Devices.{Incoming, Begins, Gave, GaveUnseen, Looked, Spends, Fails, known_bytes}
+use Rattle.bit_fields.specs.Devices.{Incoming, Begins, Gave, GaveNone, GaveUnseen, Looked, Spends, Fails, known_bytes}
+use Rattle.bit_fields.specs.Reader.{GivenBack}
 use Rattle.bit_fields.specs.Placed.{IsFront, bits_at}
 use Rattle.bit_fields.specs.declared.inflow.Missing.{Missing}
 use Rattle.bit_fields.specs.declared.inflow.Missing.TheVariants.{End, Limit, Read}
-use Rattle.bit_fields.specs.Inflow.{Flow, lending, IsKnown, stop_of, place_of, taken_of, flow_bits, total_of, budget_of, carried_of, there_of, IsFlow, Copies, KeepsFlow, LooksOn, Shows, ShowsFront, Advances, TakesBits, Lacks, Asks, RunsOut, FailsFirst, Misses, Waits, Skips, Shortens, IsSettled, Settles, HandsOver, Draining, Drained, Overran, to_ask}
+use Rattle.bit_fields.specs.Inflow.{Flow, lending, IsKnown, stop_of, place_of, taken_of, flow_bits, total_of, budget_of, carried_of, there_of, IsFlow, Copies, KeepsFlow, LooksOn, Shows, ShowsFront, Advances, TakesBits, Lacks, Asks, RunsOut, FailsFirst, Misses, Waits, Skips, Shortens, IsSettled, Settles, HandsOver, TookAll, TookMost, Drained, Overran, to_ask}
 use Rattle.bit_fields.proofs.BitLaws.{bits_of_bytes-append, bits_of_bytes-take, length-bits_of_bytes, drop_more, take_whole}
-use Rattle.bit_fields.proofs.InflowLaws.{drop_front, flow_length, Spends-refl, Spends-trans, Spends-none, fails_later, kept, at_end, came, gave_spends, Keeps-trans, looks_on, lent_known, lent_bytes, lent_after, lent_at_end, looked_lent, StillLent, spends_lent, none_fails}
+use Rattle.bit_fields.proofs.InflowLaws.{drop_front, flow_length, Spends-refl, Spends-trans, Spends-none, fails_later, kept, at_end, came, gave_spends, Keeps-trans, looks_on, lent_known, lent_bytes, lent_after, lent_at_end, looked_lent, lending_all, StillLent, spends_lent, fails_lent, none_fails}
 use Rattle.bit_fields.proofs.Asking.{known_so, bytes_so, moved_bits, shown_front, carried_on}
 
 -- ---- bits that are shown
 
-take_prefix : (room : ℕ) (x y : List ℕ) → (more : List ℕ) × (take room (x ++ y) ≡ take room x ++ more)
+pub take_prefix : (room : ℕ) (x y : List ℕ) → (more : List ℕ) × (take room (x ++ y) ≡ take room x ++ more)
 take_prefix room x y = elim (cases_lt (length x) room) [
   | inl lt ↦ (let all : room ≡ length x + (room - length x) = omega (arith, lt) in (take (room - length x) y, ap (λ (n : ℕ). take n (x ++ y)) all ∙ take-append-add x y (room - length x) ∙ ap (λ (b : List ℕ). b ++ take (room - length x) y) (sym (take_whole room x (omega (arith, lt))))))
   | inr le ↦ ([], take-append-le room x y le ∙ sym (append-nil (take room x)))
@@ -175,6 +176,19 @@ held_shows n v f was there is =
       begins = λ k. (drop n (flow_bits f), sym (take-append-drop n (flow_bits f)));
     }
 
+-- whether the first n bits are shown
+pub fronts_of : (n : ℕ) (b : BufferedBits) (f m : Flow) → Shows f b m → (o : Option ℕ) → IfSome o (λ v. IsFront n b v) → IfSome o (λ v. ShowsFront n v f m)
+fronts_of n b f m shows None h = h
+fronts_of n b f m shows (Some v) h = shows_front n v b f m shows h
+
+pub lacks_of : (n : ℕ) (b : BufferedBits) (f m : Flow) → Shows f b m → (o : Option ℕ) → IfNone o (length b.bits < n) → IfNone o (Lacks n f m)
+lacks_of n b f m shows None h = record { looks = shows.looks; few = omega (arith, shows.carried, h) }
+lacks_of n b f m shows (Some v) h = h
+
+-- fewer bits are in the carry, and the source lends none
+pub lacks_held : (n : ℕ) (f : Flow) → IsFlow f → f.lent ≡ 0 → 8 * length f.carry < f.at + n → Lacks n f f
+lacks_held n f was none few = record { looks = looks_same f; few = omega (arith, was.place, none, few) }
+
 pub takes_bits : (n v : ℕ) (f m g : Flow) → ShowsFront n v f m → Advances n m g → TakesBits n v f g
 takes_bits n v f m g shows adv =
     let keeps = looks_on f m shows.looks in
@@ -193,9 +207,6 @@ takes_bits n v f m g shows adv =
           rest.1 ∙ ap (λ (s : List Bool). shows.front ++ s) (sym behind);
       total = λ k. adv.total ∙ keeps.total k;
     }
-
-pub lacks_so : (n : ℕ) (b : BufferedBits) (f m : Flow) → Shows f b m → length b.bits < n → Lacks n f m
-lacks_so n b f m shows few = record { looks = shows.looks; few = omega (arith, shows.carried, few) }
 
 -- ---- bits that are waited for
 
@@ -344,14 +355,8 @@ shortened f i end held room kept lent is was held_is least high room_is kept_is 
 pub settled : (f : Flow) → f.at < 8 * length f.carry + 8 → IsSettled f
 settled f low k = omega (arith, low)
 
-pub released : (l : ℕ) (i : Incoming) → Spends (lending l i) 0 i 0
-released l i = record {
-  pulls = omega arith;
-  failures = refl;
-  tells = λ k. (lent_known l i k).0;
-  bytes = λ k. omega (arith, ap length (lent_bytes l i k));
-  accounts = λ n all says. says;
-}
+pub released : (l : ℕ) (i : Incoming) → GivenBack (lending l i) i
+released l i = record { pulls = refl; failures = refl; tells = λ k. (lent_known l i k).0; bytes = λ k. sym (lent_bytes l i k); accounts = λ n all says. says }
 
 pub unlent : (l : ℕ) (a : Incoming) (n : ℕ) (i : Incoming) → Fails a n (lending l i) 0 → Fails a n i 0
 unlent l a n i fails = record {
@@ -377,26 +382,79 @@ handed_over f g i is (inr fails) = inr (unlent g.lent f.incoming (budget_of f) i
 
 -- ---- all remaining input
 
-pub drain_begins : (f : Flow) (i : Incoming) → f.incoming ≡ lending f.lent i → IsFlow f → (g : Flow) → g ≡ record f { incoming = lending 0 i; lent = 0; at = 0 } → IsFlow g × Draining f g (taken_of f)
-drain_begins f i is was g g_is =
-    let still : StillLent f.lent 0 i i = λ k le. omega arith in
-    rw g_is (
-      record {
-        held = was.held;
-        within = omega (arith, was.within);
-        place = omega arith;
-        over = λ some. ((was.over some).0, refl);
-        taken = was.taken;
-        limit = was.limit;
-        ended = λ e. (subst (λ (n : ℕ). IsAtEnd (lending n i).to_come) (was.ended e).2 (subst (λ (x : Incoming). IsAtEnd x.to_come) is (was.ended e).0), (was.ended e).1, refl);
-      },
-      record {
-        limit = refl;
-        end = refl;
-        least = omega arith;
-        most = was.taken;
-        ended = λ e. (was.ended e).1;
-        spends = rw is (spends_lent i i f.lent 0 (budget_of f) (budget_of f) (Spends-refl i (budget_of f)) still);
-        total = λ k. ap (λ (b : List ℕ). taken_of f + length b) (lent_after f.lent 0 i i still (known_so f i is k) ∙ sym (bytes_so f i is k));
-      },
-    )
+-- the loop's invariant: so many bytes may still be taken
+pub record Passing (old new : Incoming) (most left : ℕ) : Type 0 where
+  pub spends : Spends old most new left
+  pub few : left ≤ most
+  pub gone : IsSome old.to_come → length (known_bytes old.to_come) ≡ length (known_bytes new.to_come) + (most - left)
+
+pub passing_begins : (i : Incoming) (most : ℕ) → Passing i i most most
+passing_begins i most = record { spends = Spends-refl i most; few = omega arith; gone = λ k. omega arith }
+
+pub passing_goes_on : (i j l : Incoming) (most left count : ℕ) → Passing i j most left → GaveUnseen j l left count → (count ≡ 0 → ⊥) → Passing i l most (left - count)
+passing_goes_on i j l most left count so gave some = record {
+  spends = Spends-trans i most j left l (left - count) so.spends (gave_spends j l count gave.into left (left - count) gave.gave (omega (arith, gave.few)) (omega (arith, gave.few, some)));
+  few = omega (arith, so.few);
+  gone = λ k. omega (arith, so.gone k, (came j l count gave.into gave.gave (so.spends.tells k)).1, gave.few, so.few);
+}
+
+pub passed_all : (i j l : Incoming) (most left count : ℕ) → Passing i j most left → 0 < left → GaveUnseen j l left count → count ≡ 0 → TookAll i l most
+passed_all i j l most left count so some gave zero_given =
+    let given : Gave j l 0 gave.into = subst (λ (n : ℕ). Gave j l n gave.into) zero_given gave.gave in
+    let none : known_bytes l.to_come ≡ [] = at_end l.to_come (given.end refl gave.some) in
+    record {
+      spends = Spends-trans i most j left l 0 so.spends (gave_spends j l 0 gave.into left 0 given (omega arith) (omega (arith, some)));
+      none = λ k. none;
+      few = λ k. omega (arith, so.gone k, (came j l 0 gave.into given (so.spends.tells k)).1, ap length none, some, so.few);
+    }
+
+pub passed_most : (i j : Incoming) (most left : ℕ) → Passing i j most left → left ≤ 0 → TookMost i j most
+passed_most i j most left so done = record { spends = Spends-none i most j left so.spends; enough = λ k. omega (arith, so.gone k, done) }
+
+pub passed_failed : (i j l : Incoming) (most left : ℕ) → Passing i j most left → 0 < left → GaveNone j l → Fails i most l 0
+passed_failed i j l most left so some none = fails_later i most j left l 0 so.spends (none_fails j l left none some)
+
+-- nothing is read any more
+pub stops_reading : (f : Flow) (i : Incoming) → f.incoming ≡ lending f.lent i → IsFlow f → (g : Flow) → g ≡ record f { incoming = lending 0 i; lent = 0; at = 0 } → IsFlow g
+stops_reading f i is was g g_is = rw g_is (record {
+  held = was.held;
+  within = omega (arith, was.within);
+  place = omega arith;
+  over = λ some. ((was.over some).0, refl);
+  taken = was.taken;
+  limit = was.limit;
+  ended = λ e. (subst (λ (n : ℕ). IsAtEnd (lending n i).to_come) (was.ended e).2 (subst (λ (x : Incoming). IsAtEnd x.to_come) is (was.ended e).0), (was.ended e).1, refl);
+})
+
+none_lent : (i : Incoming) → known_bytes (lending 0 i).to_come ≡ known_bytes i.to_come
+none_lent i = ap (λ (x : Incoming). known_bytes x.to_come) (lending_all 0 i (omega arith))
+
+no_loan : (l : ℕ) (i j : Incoming) → StillLent l 0 i j
+no_loan l i j k le = omega arith
+
+pub drained_all : (f : Flow) (i j : Incoming) → f.incoming ≡ lending f.lent i → f.ended ≡ false → TookAll i j (f.limit + 1 - taken_of f) → (g : Flow) → g.incoming ≡ lending 0 j → Drained f g
+drained_all f i j is going all g g_is = record {
+  spends = rw (going, is, g_is) (spends_lent i j f.lent 0 (f.limit + 1 - taken_of f) 0 all.spends (no_loan f.lent i j));
+  none = λ k. ap (λ (x : Incoming). known_bytes x.to_come) g_is ∙ none_lent j ∙ all.none (lent_known f.lent i (known_so f i is k)).0;
+  within = λ k. omega (arith, all.few (lent_known f.lent i (known_so f i is k)).0, ap length (bytes_so f i is k));
+}
+
+pub drained_before : (f : Flow) (i : Incoming) → f.incoming ≡ lending f.lent i → IsFlow f → f.ended ≡ true → (g : Flow) → g.incoming ≡ lending 0 i → Drained f g
+drained_before f i is was ended g g_is =
+    let end = was.ended ended in
+    let none : known_bytes f.incoming.to_come ≡ [] = at_end f.incoming.to_come end.0 in
+    record {
+      spends = rw (is, g_is) (spends_lent i i f.lent 0 (budget_of f) 0 (Spends-none i (budget_of f) i (budget_of f) (Spends-refl i (budget_of f))) (no_loan f.lent i i));
+      none = λ k. ap (λ (x : Incoming). known_bytes x.to_come) g_is ∙ none_lent i ∙ sym (bytes_so f i is k) ∙ none;
+      within = λ k. omega (arith, end.1, ap length none);
+    }
+
+pub overran : (f : Flow) (i j : Incoming) → f.incoming ≡ lending f.lent i → f.ended ≡ false → IsFlow f → TookMost i j (f.limit + 1 - taken_of f) → (g : Flow) → g.limit ≡ f.limit → g.incoming ≡ lending 0 j → Overran f g
+overran f i j is going was most g limit g_is = record {
+  limit = limit;
+  spends = rw (going, is, g_is) (spends_lent i j f.lent 0 (f.limit + 1 - taken_of f) 0 most.spends (no_loan f.lent i j));
+  past = λ k. omega (arith, most.enough (lent_known f.lent i (known_so f i is k)).0, ap length (bytes_so f i is k), was.taken);
+}
+
+pub drain_failed : (f : Flow) (i j : Incoming) → f.incoming ≡ lending f.lent i → f.ended ≡ false → Fails i (f.limit + 1 - taken_of f) j 0 → (g : Flow) → g.incoming ≡ lending 0 j → Fails f.incoming (budget_of f) g.incoming 0
+drain_failed f i j is going fails g g_is = rw (going, is, g_is) (fails_lent i j f.lent 0 (f.limit + 1 - taken_of f) 0 fails (no_loan f.lent i j))

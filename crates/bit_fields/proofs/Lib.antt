@@ -3,6 +3,7 @@ pub mod Words
 pub mod InflowLaws
 pub mod Asking
 pub mod Flowing
+pub mod HeldBits
 pub mod Showing
 pub mod Keeping
 pub mod Fronts

@@ -5,7 +5,7 @@ use Rattle.bit_fields.specs.Buffered.{BufferedBits, OnlyLooks, ShowsBits, reader
 use Rattle.bit_fields.specs.Devices.{Incoming, Spends, Fails}
 use Rattle.bit_fields.specs.Inflow.{Flow, flow_bits, total_of, budget_of, there_of, place_of, Shows, Advances, HandsOver}
 use Rattle.bit_fields.specs.Inside.{reader_of, IsReader}
-use Rattle.bit_fields.specs.Reader.{Reader, Returned}
+use Rattle.bit_fields.specs.Reader.{Reader, GivenBack, Returned}
 use Rattle.bit_fields.proofs.InflowLaws.{looks_on}
 use Rattle.bit_fields.proofs.Flowing.{looked_same, there_on}
 
@@ -31,12 +31,15 @@ shows_live live p f g b now view alive is shows =
       there = shows.there;
     })
 
--- a failed reader shows none
-pub shows_nothing : (live : Bool) (p : ℕ) (f : Flow) (b : BufferedBits) (now : Reader) → reader_of live p f ≡ now → b ≡ record { position = p; bits = [] } → ShowsBits now b (reader_of live p f)
-shows_nothing live p f b now view b_is = rw (← view, b_is) (record {
-  looks = record { live = refl; position = refl; there = refl; budget = refl; end = refl; limit = refl; extent = λ k. refl; left = λ k. refl; looked = looked_same f.incoming };
+abbrev no_bits_at : ℕ → BufferedBits
+no_bits_at p = record { position = p; bits = [] }
+
+-- none are shown
+pub shows_nothing : (now : Reader) (p : ℕ) (b : BufferedBits) → p ≡ now.position → b ≡ record { position = p; bits = [] } → ShowsBits now b now
+shows_nothing now p b here b_is = rw (b_is ∙ ap no_bits_at here) (record {
+  looks = record { live = refl; position = refl; there = refl; budget = refl; end = refl; limit = refl; extent = λ k. refl; left = λ k. refl; looked = looked_same now.incoming };
   position = refl;
-  front = λ k. ((reader_of live p f).left, refl);
+  front = λ k. (now.left, refl);
   there = omega arith;
 })
 
@@ -57,8 +60,12 @@ stays_there live p n f now view dead few =
 -- ---- the source
 
 pub returns_live : (live : Bool) (p : ℕ) (f : Flow) (i : Incoming) (now : Reader) → reader_of live p f ≡ now → live ≡ true → IsReader live p f → HandsOver f i ⊎ Fails f.incoming (budget_of f) i 0 → Returned now i ⊎ ((now.live ≡ true) × Fails now.incoming now.budget i 0)
-returns_live live p f i now view alive is (inl over) = rw (← view, alive) (inl (record { spends = over.spends; behind = λ l k. omega (arith, over.behind k, is alive) }))
+returns_live live p f i now view alive is (inl over) = rw (← view, alive) (inl (record { spends = over.spends; failed = λ l. absurd (false≢true (sym l)); behind = λ l k. omega (arith, over.behind k, is alive) }))
 returns_live live p f i now view alive is (inr fails) = rw (← view, alive) (inr (refl, fails))
 
-pub returns_failed : (live : Bool) (p : ℕ) (f : Flow) (i : Incoming) (now : Reader) → reader_of live p f ≡ now → live ≡ false → Spends f.incoming 0 i 0 → Returned now i
-returns_failed live p f i now view dead spends = rw (← view, dead) (record { spends = spends; behind = λ l k. absurd (false≢true l) })
+-- a source that is given back costs nothing
+pub given_back : (i j : Incoming) → GivenBack i j → Spends i 0 j 0
+given_back i j g = record { pulls = omega (arith, g.pulls); failures = g.failures; tells = g.tells; bytes = λ k. omega (arith, ap length (g.bytes k)); accounts = g.accounts }
+
+pub returns_failed : (live : Bool) (p : ℕ) (f : Flow) (i : Incoming) (now : Reader) → reader_of live p f ≡ now → live ≡ false → GivenBack f.incoming i → Returned now i
+returns_failed live p f i now view dead back = rw (← view, dead) (record { spends = given_back f.incoming i back; failed = λ l. back; behind = λ l k. absurd (false≢true l) })

@@ -1,5 +1,5 @@
 -- The beginning of an input.
-use Rattle.std.proofs.Common.{◌≡◌, ℕ, ◌+◌, ◌*◌, ◌-◌, ◌%◌, ◌^◌, ◌<◌, ◌≤◌, min, Bool, true, not, ◌&&◌, leb, eqb, List, [], length, take, Option, Some, None, Result, Ok, Err, refl, sym, ap, ◌∙◌, subst, arith, inl, inr}
+use Rattle.std.proofs.Common.{◌≡◌, ℕ, ◌+◌, ◌*◌, ◌-◌, ◌%◌, ◌^◌, ◌<◌, ◌≤◌, ◌⊎◌, min, Bool, true, not, ◌&&◌, leb, eqb, List, [], length, take, Option, Some, None, Result, Ok, Err, refl, sym, ap, ◌∙◌, subst, arith, inl, inr}
 use Rattle.std.proofs.lemmas.Bool.{cases_lt, false≢true, le-ltb, lt-ltb, ne_eqb}
 use Rattle.std.proofs.lemmas.List.{length-take-le}
 use Rattle.std.proofs.Math.Nat.{mod-eq_of_lt}
@@ -16,14 +16,15 @@ use Rattle.bit_grammar.specs.Input.{version, offset, wrapper, any_bits, wrapper_
 use Rattle.bit_fields.specs.declared.fault.Fault.{Fault}
 use Rattle.bit_fields.specs.declared.fault.Fault.TheVariants.{Refused, Read, Write, Memory, OutputTooLong, Failed}
 use Rattle.bit_fields.specs.declared.head.Wrapper.{Wrapper}
-use Rattle.bit_fields.specs.Devices.{Fails}
+use Rattle.bit_fields.specs.Devices.{Incoming, Fails}
 use Rattle.bit_fields.specs.Inflow.{Flow, flow_bits, place_of, Shortens}
-use Rattle.bit_fields.specs.Reader.{Reader, Extent, EndsAfter, TellsBytes, is_cut, Breaks, GoesOn, Loses, SpellsTo, Took, Why, Takes, NeedsNoMemory}
+use Rattle.bit_fields.specs.Reader.{Reader, Extent, EndsAfter, TellsBytes, is_cut, Breaks, GoesOn, Loses, SpellsTo, Took, Why, Takes, NeedsNoMemory, GivenBack, Returned}
 use Rattle.bit_fields.specs.Inside.{reader_of, IsReader}
 use Rattle.bit_fields.specs.Opening.{Beginning, with_magic, in_wrapper, beginning, opening, wrapper_read, wrapper_of, wrapper_told, magic_number, end_of_stream, OpenedInput, LeavesSource, Declines}
 use Rattle.bit_fields.specs.Ending.{reach_of}
 use Rattle.bit_fields.proofs.BitLaws.{le_bytes_bits_32, number-bits_mod}
-use Rattle.bit_fields.proofs.InflowLaws.{Spends-none, Fails-none, fails_later}
+use Rattle.bit_fields.proofs.InflowLaws.{Spends-none, Spends-trans, Fails-none, fails_later}
+use Rattle.bit_fields.proofs.Showing.{given_back}
 use Rattle.bit_fields.proofs.Composing.{spells_nothing, spells_then, took_then, fault_then, took_nothing, from_here, goes_on_both}
 use Rattle.bit_fields.proofs.Padding.{is_eqb}
 
@@ -307,8 +308,8 @@ reached a w c d e t u ends =
         s.1,
         s.2,
         s.3,
-        spells_then wrapper (λ w. any_bits (8 * (w.offset - 20)) >> gives w) s.1 c.position d.position w w s.4
-            (spells_then (any_bits (8 * (w.offset - 20))) (λ v. gives w) c.position d.position d.position tt w u.spells (spells_nothing w d.position)),
+        subst (λ (q : ℕ). SpellsTo wrapper_and_gap s.1 w q) (sym ends.position) (spells_then wrapper (λ w. any_bits (8 * (w.offset - 20)) >> gives w) s.1 c.position d.position w w s.4
+            (spells_then (any_bits (8 * (w.offset - 20))) (λ v. gives w) c.position d.position d.position tt w u.spells (spells_nothing w d.position))),
       );
     }
   where
@@ -355,3 +356,31 @@ stream_begins a w e n magic f t u below is = record {
 
     spelled : SpellsTo opening 0 head f.position
     spelled = spells_then (fixed 32) in_input 0 t.spells.1 f.position t.spells.0 head t.spells.3 (inner.0, inl (t.spells.2, inner.1), inner.2)
+
+-- ---- the source of an input that was not begun
+
+pub why_failed : {A : Type 0} (rule : Grammar A) (a : Reader) (fault : Fault) (b : Reader) → Why rule a fault b → b.live ≡ false
+why_failed rule a (Refused reason bit) b why = why.0.failed
+why_failed rule a Read b why = why.failed
+why_failed rule a Memory b why = why.failed
+why_failed rule a Failed b why = ap (λ (r : Reader). r.live) why.1 ∙ why.0
+why_failed rule a Write b why = absurd why
+why_failed rule a OutputTooLong b why = absurd why
+
+back_after : (i j l : Incoming) (n : ℕ) → Fails i n j 0 → GivenBack j l → Fails i n l 0
+back_after i j l n fails back = record {
+  pulls = omega (arith, fails.pulls, back.pulls);
+  failed = elim fails.failed [ inl one ↦ inl (back.failures ∙ one) | inr worn ↦ inr (back.failures ∙ worn.0, rw (back.pulls, back.failures) worn.1) ];
+  tells = λ k. back.tells (fails.tells k);
+  bytes = λ k. omega (arith, fails.bytes k, ap length (back.bytes (fails.tells k)));
+  accounts = λ m all says. back.accounts m all (fails.accounts m all says);
+}
+
+pub declines_back : (a m : Reader) (fault : Fault) (now : Incoming) → Declines a fault m.incoming → m.live ≡ false → Returned m now ⊎ ((m.live ≡ true) × Fails m.incoming m.budget now 0) → Declines a fault now
+declines_back a m fault now d dead (inr fails) = absurd (false≢true (sym dead ∙ fails.0))
+declines_back a m (Refused reason bit) now d dead (inl back) = (Spends-trans a.incoming a.budget m.incoming 0 now 0 d.0 (given_back m.incoming now (back.failed dead)), d.1)
+declines_back a m Read now d dead (inl back) = back_after a.incoming m.incoming now a.budget d (back.failed dead)
+declines_back a m Memory now d dead (inl back) = d
+declines_back a m Failed now d dead (inl back) = d
+declines_back a m Write now d dead (inl back) = d
+declines_back a m OutputTooLong now d dead (inl back) = d

@@ -5,6 +5,7 @@ use Rattle.bit_grammar.specs.Bits.{number, bits_of_bytes}
 use Rattle.bit_fields.specs.Buffered.{BufferedBits}
 use Rattle.bit_fields.specs.Devices.{Incoming, Begins, Looked, Spends, Fails, known_bytes}
 use Rattle.bit_fields.specs.declared.inflow.Missing.{Missing}
+use Rattle.bit_fields.specs.declared.source.SourceFailed.{SourceFailed}
 use Rattle.bit_fields.specs.declared.inflow.Missing.TheVariants.{End, Limit, Read}
 
 -- a source whose next bytes were lent, so many: its bytes are known only if it has as many
@@ -264,16 +265,22 @@ pub record HandsOver (old : Flow) (now : Incoming) : Type 0 where
 
 -- ---- all remaining input, which is skipped
 
--- how far it is
-pub record Draining (old new : Flow) (taken : ℕ) : Type 0 where
-  pub limit : new.limit ≡ old.limit
-  pub end : new.end ≡ old.end
-  pub least : taken_of new ≤ taken
-  pub most : taken ≤ old.limit + 1
-  pub ended : new.ended ≡ true → taken ≤ old.limit
-  pub spends : Spends old.incoming (budget_of old) new.incoming
-      (if new.ended then 0 else (old.limit + 1 - taken))
-  pub total : IsKnown old → taken + length (known_bytes new.incoming.to_come) ≡ total_of old
+-- a source has no byte left, and had fewer than so many
+pub record TookAll (old new : Incoming) (most : ℕ) : Type 0 where
+  pub spends : Spends old most new 0
+  pub none : IsSome old.to_come → known_bytes new.to_come ≡ []
+  pub few : IsSome old.to_come → length (known_bytes old.to_come) < most
+
+-- so many bytes of a source were taken
+pub record TookMost (old new : Incoming) (most : ℕ) : Type 0 where
+  pub spends : Spends old most new 0
+  pub enough : IsSome old.to_come → most ≤ length (known_bytes old.to_come)
+
+-- the effect of taking all bytes of a source, at most so many
+abbrev pub PassesAll : ℕ → Incoming → Incoming → Result Bool SourceFailed → Type 0
+PassesAll most old new (Ok true) = TookAll old new most
+PassesAll most old new (Ok false) = TookMost old new most
+PassesAll most old new (Err e) = Fails old most new 0
 
 -- the source has no byte left, and the whole input is within the limit
 pub record Drained (old new : Flow) : Type 0 where

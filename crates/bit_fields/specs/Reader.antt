@@ -6,7 +6,7 @@ use Rattle.bit_grammar.specs.Grammar as grammar
 use Rattle.bit_grammar.specs.Grammar.{Grammar, at, Spells, reading}
 use Rattle.bit_fields.specs.declared.fault.Fault.{Fault}
 use Rattle.bit_fields.specs.declared.fault.Fault.TheVariants.{Refused, Read, Write, Memory, OutputTooLong, Failed}
-use Rattle.bit_fields.specs.Devices.{Incoming, Spends, Fails, known_bytes}
+use Rattle.bit_fields.specs.Devices.{Incoming, SaysOf, Spends, Fails, known_bytes}
 
 -- how far a stream goes
 pub record Extent : Type 0 where
@@ -164,7 +164,16 @@ AsksByChunk n before old (Ok value) new = Unit {0}
 AsksByChunk n before old (Err Read) new = FailsInChunk n before old new
 AsksByChunk n before old (Err fault) new = Unit {0}
 
+-- a source was given back: its counts and accounts are as they were, and so are its bytes, if they were known
+pub record GivenBack (old new : Incoming) : Type 0 where
+  pub pulls : new.pulls ≡ old.pulls
+  pub failures : new.failures ≡ old.failures
+  pub tells : IsSome old.to_come → IsSome new.to_come
+  pub bytes : IsSome old.to_come → known_bytes new.to_come ≡ known_bytes old.to_come
+  pub accounts : (n : ℕ) (all : List ℕ) → SaysOf old.accounts n all → SaysOf new.accounts n all
+
 -- the source that a reader returns: the bytes of which it read all bits are taken, if it had not failed
 pub record Returned (r : Reader) (now : Incoming) : Type 0 where
   pub spends : Spends r.incoming r.budget now 0
+  pub failed : r.live ≡ false → GivenBack r.incoming now
   pub behind : r.live ≡ true → TellsBytes r → r.position < 8 * (r.extent.total - length (known_bytes now.to_come)) + 8

@@ -1,8 +1,9 @@
 ghost use Rattle.std.specs.Prelude.{ℕ, ◌≡◌, ◌+◌, ◌*◌, ◌-◌, ◌<◌, ◌≤◌, ◌^◌, ◌⊎◌, length, true, false, take, drop, [], OnErr, OnOk, IfOk, IfSome, IfNone, Err};
-ghost use Rattle.bit_fields.specs.Inflow.{IsFlow, IsKnown, KeepsFlow, LooksOn, LostFlow, Shows, ShowsFront, Advances, TakesBits, Lacks, Drops, Asks, TakesLate, Waits, SkipsSome, Shortens, Copies, HandsOver, IsSettled, Settles, Drains, stop_of, taken_of, place_of, carried_of, there_of, flow_bits, budget_of, to_ask};
+ghost use Rattle.bit_fields.specs.Inflow.{IsFlow, IsKnown, KeepsFlow, LooksOn, LostFlow, Shows, ShowsFront, Advances, TakesBits, Lacks, Drops, Asks, TakesLate, Waits, SkipsSome, Shortens, Copies, HandsOver, IsSettled, Settles, Drains, PassesAll, stop_of, taken_of, place_of, carried_of, there_of, flow_bits, budget_of, to_ask};
 ghost use Rattle.bit_fields.specs.PlacedView.{placed};
 ghost use Rattle.std.specs.Borrow.{sem};
-ghost use Rattle.bit_fields.specs.Devices.{Looked, Fails, Spends, known_bytes};
+ghost use Rattle.bit_fields.specs.Devices.{Looked, Fails, known_bytes};
+ghost use Rattle.bit_fields.specs.Reader.{GivenBack};
 ghost use Rattle.std.specs.Io.BufRead.{Rests};
 
 use crate::placed::PlacedBits;
@@ -101,6 +102,21 @@ fn copy_lent<S: Source>(
     count
 }
 
+/// Takes all bytes that a source still has, at most `most`. Returns whether it has no more.
+fn pass_all<S: Source>(source: &mut S, most: u64) -> Result<bool, SourceFailed>
+    ensures { PassesAll most (S.incoming source.old) (S.incoming source.new) result }
+{
+    let mut left = most;
+    while left > 0 {
+        let count = source.pass(left as usize)?;
+        if count == 0 {
+            return Ok(true);
+        }
+        left -= count as u64;
+    }
+    Ok(false)
+}
+
 impl<S: Source> Inflow<S> {
     ghost use Rattle.bit_fields.specs.contracts.inflow.Inflow.{the_row};
 
@@ -145,7 +161,7 @@ impl<S: Source> Inflow<S> {
 
     /// Returns the source in its present state.
     pub fn release(self) -> S
-        ensures { Spends self.incoming 0 (S.incoming result) 0 }
+        ensures { GivenBack self.incoming (S.incoming result) }
     {
         self.source
     }
@@ -257,7 +273,8 @@ impl<S: Source> Inflow<S> {
     /// Whether n bits are in the carry.
     #[inline(always)]
     pub fn holds(&self, n: u32) -> bool
-        ensures { result ≡ true → self.now.at + n ≤ 8 * length self.now.carry }
+        ensures yes { result ≡ true → self.now.at + n ≤ 8 * length self.now.carry }
+        ensures no { result ≡ false → 8 * length self.now.carry < self.now.at + n }
     {
         self.at + u64::from(n) <= 8 * self.held as u64
     }
@@ -271,7 +288,7 @@ impl<S: Source> Inflow<S> {
         ensures below { result < 2 ^ n }
     {
         let rest = &self.carry[(self.at >> 3) as usize..];
-        eight_of(rest) >> (self.at & 7) & ((1 << n) - 1)
+        eight_of(rest) >> (self.at % 8) & ((1 << n) - 1)
     }
 
     /// The number of the first n bits, if they are there.
@@ -427,17 +444,16 @@ impl<S: Source> Inflow<S> {
         if self.over > 0 {
             return Missing::Limit;
         }
-        match self.source.pull(&mut [0]) {
-            Ok(0) => {
-                self.ended = true;
-                Missing::End
-            }
-            Ok(_) => {
-                self.over = 1;
-                Missing::Limit
-            }
-            Err(SourceFailed) => Missing::Read,
+        let count = match self.source.pull(&mut [0]) {
+            Ok(count) => count,
+            Err(SourceFailed) => return Missing::Read,
+        };
+        if count == 0 {
+            self.ended = true;
+            return Missing::End;
         }
+        self.over = 1;
+        Missing::Limit
     }
 
     /// Takes the number of the first n bits, and asks the source while they are not there.
@@ -448,11 +464,13 @@ impl<S: Source> Inflow<S> {
         ensures below { IfOk result (λ value. value < 2 ^ n) }
     {
         loop {
-            if let Some(value) = self.front(n) {
-                self.advance(u64::from(n));
-                return Ok(value);
+            match self.front(n) {
+                Some(value) => {
+                    self.advance(u64::from(n));
+                    return Ok(value);
+                }
+                None => self.ask()?,
             }
-            self.ask()?;
         }
     }
 
@@ -500,20 +518,17 @@ impl<S: Source> Inflow<S> {
     pub fn drain(&mut self) -> Result<(), Missing>
         ensures { Drains self.old self.new result }
     {
-        let mut taken = self.before + self.held as u64 + self.over;
+        let most = self.limit + 1 - self.taken();
         self.lent = 0;
         self.at = 0;
-        while !self.ended {
-            if taken > self.limit {
-                return Err(Missing::Limit);
-            }
-            match self.source.pass((self.limit + 1 - taken) as usize) {
-                Ok(0) => self.ended = true,
-                Ok(count) => taken += count as u64,
-                Err(SourceFailed) => return Err(Missing::Read), // nothing is asked after a failure
-            }
+        if self.ended {
+            return Ok(());
         }
-        Ok(())
+        match pass_all(&mut self.source, most) {
+            Ok(true) => Ok(()),
+            Ok(false) => Err(Missing::Limit),
+            Err(SourceFailed) => Err(Missing::Read),
+        }
     }
 
     /// The byte at which the stream ends, unless its source ends before.

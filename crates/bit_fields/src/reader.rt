@@ -83,6 +83,7 @@ impl<S: Source> BitReader<S> {
         requires end { self.old.extent.end ≡ 2 ^ 64 - 1 }
         ensures opens { Opens self.old result self.new }
         ensures place { OnOk result (self.new.position % 32 ≡ 0) }
+        ensures failed { OnErr result (self.new.live ≡ false) }
     {
         let first = self.fixed(32)?;
         if first != WRAPPER_MAGIC {
@@ -620,9 +621,10 @@ impl<S: Source> BitReader<S> {
             });
         }
         match self.inflow.drain() {
-            Ok(()) => Ok(()),
-            Err(missing) => Err(self.fault_of(missing, self.position)),
+            Ok(()) => {}
+            Err(missing) => return Err(self.fault_of(missing, self.position)),
         }
+        Ok(())
     }
 
     /// Whether the bytes before the position fill the wrapper of the stream, if it has one.

@@ -1,5 +1,6 @@
-use Rattle.std.proofs.Common.{arith}
+use Rattle.std.proofs.Common.{refl, arith}
+use Rattle.bit_fields.proofs.Flowing.{stops_reading, drained_all, drained_before, overran, drain_failed}
 use Rattle.bit_fields.proofs.inflow.Inflow.drain.Goals as goal
 
-pub returns : goal.returns
-returns g c = ?
+pub returns-then-self : goal.returns-then-self
+returns-then-self g c = rw (← c.self.view_is) (drained_before _ (g.S.Source.incoming c.self.inside.source) refl c.self.invariant.0 c.if-self.true _ refl)

@@ -1,4 +1,4 @@
-use Rattle.std.proofs.Common.{subst}
+use Rattle.std.proofs.Common.{Bool, subst}
 use Rattle.bit_fields.specs.declared.inflow.Missing.TheVariants as missing
 use Rattle.bit_fields.specs.Inflow.{Misses}
 use Rattle.bit_fields.proofs.AtTheEnd.{looks_ended, looks_cut, looks_more, is_through}
@@ -21,4 +21,4 @@ pub returns-in-Err-Limit-clause-asks : goal.returns-in-Err-Limit-clause-asks
 returns-in-Err-Limit-clause-asks g c = rw c.miss.ensures.fault tt
 
 pub returns-in-Err-Read-clause-asks : goal.returns-in-Err-Read-clause-asks
-returns-in-Err-Read-clause-asks g c = missed_within 1 c.self.inside.position c.self.inside.position c.self.inside.live c.self.inside.inflow c.wait.new.self missing.Read c.args.self.now c.miss-in-Err-Read.new.self c.miss-in-Err-Read.result c.if-not-self.false c.self.invariant c.self.view_is (subst (Misses 1 c.self.inside.inflow c.wait.new.self) c.in-Err-Read.field-0-is c.in-Err-Read.ensures) c.miss-in-Err-Read.ensures.fault c.miss-in-Err-Read.ensures.stopped
+returns-in-Err-Read-clause-asks g c = missed_within Bool 1 c.self.inside.position c.self.inside.position c.self.inside.live c.self.inside.inflow c.wait.new.self missing.Read c.args.self.now c.miss-in-Err-Read.new.self c.miss-in-Err-Read.result c.if-not-self.false c.self.invariant c.self.view_is (subst (Misses 1 c.self.inside.inflow c.wait.new.self) c.in-Err-Read.field-0-is c.in-Err-Read.ensures) c.miss-in-Err-Read.ensures.fault c.miss-in-Err-Read.ensures.stopped

@@ -1,4 +1,4 @@
-use Rattle.std.proofs.Common.{◌+◌, Ok, Err, arith}
+use Rattle.std.proofs.Common.{ℕ, ◌+◌, Ok, Err, arith}
 use Rattle.std.proofs.lemmas.Result.{err_from_is_err_and}
 use Rattle.bit_grammar.specs.Fields.{byte}
 use Rattle.bit_fields.proofs.Composing.{only}
@@ -23,4 +23,4 @@ returns-clause-only g c = only byte c.args.self.now (Ok c.in_ok-byte.byte) c.fix
 pub returns-in_err-byte-clause-asks : goal.returns-in_err-byte-clause-asks
 returns-in_err-byte-clause-asks g c =
     let p = err_from_is_err_and c.from_residual.result c.from_residual.ensures.1 in
-    rw (p.1, p.2) (fails_too (c.args.self.now.position + 8) (c.args.self.now.position + 8) c.in_err-byte.field-0.0 c.fixed.new.self (omega arith) c.in_err-byte.ensures.asks)
+    rw (p.1, p.2) (fails_too ℕ ℕ (c.args.self.now.position + 8) (c.args.self.now.position + 8) c.in_err-byte.field-0.0 c.fixed.new.self (omega arith) c.in_err-byte.ensures.asks)

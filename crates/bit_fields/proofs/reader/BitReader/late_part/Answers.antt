@@ -1,4 +1,4 @@
-use Rattle.std.proofs.Common.{arith}
+use Rattle.std.proofs.Common.{ℕ, arith}
 use Rattle.bit_fields.proofs.Parts.{took_as, missed_as, misses_exact}
 use Rattle.bit_fields.proofs.Asked.{missed_within}
 use Rattle.bit_fields.proofs.reader.BitReader.late_part.Goals as goal
@@ -10,4 +10,4 @@ pub returns-in-Err-clause-takes : goal.returns-in-Err-clause-takes
 returns-in-Err-clause-takes g c = missed_as c.args.n c.args.first c.self.inside.position c.self.inside.live c.self.inside.inflow c.take_late.new.self c.in-Err.missing c.args.self.now c.miss.new.self c.miss.result c.if-not-self.false c.self.view_is c.in-Err.ensures.takes c.miss.ensures.fault c.miss.ensures.stopped
 
 pub returns-in-Err-clause-asks : goal.returns-in-Err-clause-asks
-returns-in-Err-clause-asks g c = missed_within c.args.n c.args.first c.self.inside.position c.self.inside.live c.self.inside.inflow c.take_late.new.self c.in-Err.missing c.args.self.now c.miss.new.self c.miss.result c.if-not-self.false c.self.invariant c.self.view_is c.in-Err.ensures.takes c.miss.ensures.fault c.miss.ensures.stopped
+returns-in-Err-clause-asks g c = missed_within ℕ c.args.n c.args.first c.self.inside.position c.self.inside.live c.self.inside.inflow c.take_late.new.self c.in-Err.missing c.args.self.now c.miss.new.self c.miss.result c.if-not-self.false c.self.invariant c.self.view_is c.in-Err.ensures.takes c.miss.ensures.fault c.miss.ensures.stopped

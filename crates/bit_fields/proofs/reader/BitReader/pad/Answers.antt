@@ -29,4 +29,4 @@ returns-in_err-count-clause-asks g c =
     let p = err_from_is_err_and c.from_residual.result c.from_residual.ensures.1 in
     let all : ℕ = c.loop-left.self.position + c.loop-left.left in
     let within : all ≤ c.args.self.now.position + padding_length c.args.self.now.position = subst (λ (q : ℕ). all ≤ q + padding_length q) (ap (λ (r : Reader). r.position) c.self.view_is) (omega (arith, c.loop-left.invariant.place)) in
-    rw (p.1, p.2) (fails_too all (c.args.self.now.position + padding_length c.args.self.now.position) c.in_err-count.field-0.0 c.some_zeros.new.self within c.in_err-count.ensures.asks)
+    rw (p.1, p.2) (fails_too ℕ (Unit {0}) all (c.args.self.now.position + padding_length c.args.self.now.position) c.in_err-count.field-0.0 c.some_zeros.new.self within c.in_err-count.ensures.asks)

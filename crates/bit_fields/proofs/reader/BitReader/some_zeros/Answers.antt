@@ -19,7 +19,7 @@ returns-in_err-one_zero-clause-misses g c =
 pub returns-in_err-one_zero-clause-asks : goal.returns-in_err-one_zero-clause-asks
 returns-in_err-one_zero-clause-asks g c =
     let p = err_from_is_err_and c.from_residual.result c.from_residual.ensures.1 in
-    rw (p.1, p.2) (fails_too (c.held_zeros-count.new.self.position + 1) (c.args.self.now.position + c.args.most) c.in_err-one_zero.field-0.0 c.one_zero.new.self (omega (arith, c.held_zeros-count.ensures.place, c.requires.some, c.if-count-gt0.false)) c.in_err-one_zero.ensures.asks)
+    rw (p.1, p.2) (fails_too (Unit {0}) ℕ (c.held_zeros-count.new.self.position + 1) (c.args.self.now.position + c.args.most) c.in_err-one_zero.field-0.0 c.one_zero.new.self (omega (arith, c.held_zeros-count.ensures.place, c.requires.some, c.if-count-gt0.false)) c.in_err-one_zero.ensures.asks)
 
 pub returns-clause-takes : goal.returns-clause-takes
 returns-clause-takes g c =
@@ -30,3 +30,6 @@ returns-clause-takes g c =
       took = nothing_then (zeros c.args.first 1) c.args.self.now c.held_zeros-count.new.self (Ok tt) c.one_zero.new.self nothing c.in_ok-one_zero.ensures.takes;
       moves = omega (arith, c.in_ok-one_zero.ensures.moves, c.held_zeros-count.ensures.place, c.if-count-gt0.false);
     }
+
+pub returns-then-count-gt0-clause-takes : goal.returns-then-count-gt0-clause-takes
+returns-then-count-gt0-clause-takes g c = c.held_zeros-count.ensures.some c.if-count-gt0.true c.args.first
