@@ -273,6 +273,10 @@ pulled_unseen f i j count into is going free within zero_given lent room gave =
       bytes = λ k. absurd (not_known k);
     }
 
+-- bytes of the stream are still to come, so none behind it were taken
+pub over_none : (f : Flow) → IsFlow f → taken_of f < stop_of f → f.over ≡ 0
+over_none f was some = elim (cases_lt 0 f.over) [ inl over ↦ absurd (omega (arith, (was.over over).0, some)) | inr free ↦ omega (arith, free) ]
+
 -- what a pull gave, or a byte that the source lent
 pub pulled_any : (f : Flow) (i j : Incoming) (given count : ℕ) (into : List ℕ) → f.incoming ≡ lending f.lent i → f.ended ≡ false → length f.carry + length into ≤ 64 → taken_of f + length into ≤ stop_of f → 0 < length into → ((given ≡ 0) × (count ≡ 1) × (0 < f.lent)) ⊎ ((given ≡ 0 → ⊥) × (count ≡ given)) → Gave i j given into → (count ≤ length into) × Joins f (take count into) (f.lent - count) j
 pulled_any f i j given count into is going free within room (inl unseen) gave = (omega (arith, unseen.1, room), rw (unseen.1) (pulled_unseen f i j given into is going (omega (arith, free, room)) (omega (arith, within, room)) unseen.0 unseen.2 room gave))
@@ -306,7 +310,7 @@ pub lends : (f : Flow) (i j l : Incoming) (shown : List ℕ) (lent : ℕ) → f.
     → (g : Flow) → g ≡ record f { incoming = lending lent l; lent = lent } → KeepsFlow f g × IsFlow g × (to_ask g < to_ask f)
 lends f i j l shown lent is was going none_lent some look lend front few room more g g_is =
     let n : ℕ = f.limit + 1 - taken_of f in
-    let none : f.over ≡ 0 = elim (cases_lt 0 f.over) [ inl over ↦ absurd (omega (arith, (was.over over).0, some)) | inr no ↦ omega (arith, no) ] in
+    let none : f.over ≡ 0 = elim (cases_lt 0 f.over) [ inl over ↦ absurd (omega (arith, (was.over over).0, some)) | inr free ↦ omega (arith, free) ] in
     let told : IsSome i.to_come → IsSome j.to_come = λ k. (kept i.to_come j.to_come look.bytes k).0 in
     let same : IsSome i.to_come → known_bytes i.to_come ≡ known_bytes l.to_come = λ k. (kept i.to_come j.to_come look.bytes k).1 ∙ (kept j.to_come l.to_come lend.bytes (told k)).1 in
     let still : StillLent f.lent lent i l = λ k le. omega (arith, few, ap length (shown_front j.to_come shown front (told k)), length-take (length shown) (known_bytes j.to_come), ap length (kept j.to_come l.to_come lend.bytes (told k)).1) in

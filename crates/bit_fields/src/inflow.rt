@@ -281,10 +281,11 @@ impl<S: Source> Inflow<S> {
 
     /// The number of the first n bits, which are in the carry.
     #[inline(always)]
-    pub fn held_front(&self, n: u32) -> u64
+    pub fn held_front(&mut self, n: u32) -> u64
         requires few { n ≤ 32 }
-        requires there { self.now.at + n ≤ 8 * length self.now.carry }
-        ensures shows { ShowsFront n result self.now self.now }
+        requires there { self.old.at + n ≤ 8 * length self.old.carry }
+        ensures same { self.new ≡ self.old }
+        ensures shows { ShowsFront n result self.old self.old }
         ensures below { result < 2 ^ n }
     {
         let rest = &self.carry[(self.at >> 3) as usize..];

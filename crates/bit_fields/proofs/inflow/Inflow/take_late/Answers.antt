@@ -18,13 +18,13 @@ returns-in-Some-clause-takes g c = takes_later c.args.n c.in-Some.value c.args.s
 pub ask-requires : goal.ask-requires
 ask-requires g c = omega (arith, carried_on c.loop-value.self c.front.new.self c.in-None.ensures.none.looks, c.in-None.ensures.none.few, c.requires)
 
-pub returns-in_err-ask-clause-takes : goal.returns-in_err-ask-clause-takes
-returns-in_err-ask-clause-takes g c =
+pub returns-in_err-ask-in-None-clause-takes : goal.returns-in_err-ask-in-None-clause-takes
+returns-in_err-ask-in-None-clause-takes g c =
     let p = err_from_is_err_and c.from_residual.result c.from_residual.ensures.1 in
-    rw (p.1, p.2) (misses_later c.args.n c.args.self.now c.loop-value.self c.front.new.self c.ask.new.self c.in_err-ask.field-0.0 c.loop-value.invariant c.in-None.ensures.none c.in_err-ask.ensures.asks)
+    rw (p.1, p.2) (misses_later c.args.n c.args.self.now c.loop-value.self c.front.new.self c.ask.new.self c.in_err-ask-in-None.field-0.0 c.loop-value.invariant c.in-None.ensures.none c.in_err-ask-in-None.ensures.asks)
 
 pub loop-value-preserved : goal.loop-value-preserved
-loop-value-preserved g c = Keeps-trans c.args.self.now c.front.new.self c.ask.new.self (lacks_keeps c.args.n c.args.self.now c.loop-value.self c.front.new.self c.loop-value.invariant c.in-None.ensures.none) c.in_ok-ask.ensures.asks
+loop-value-preserved g c = Keeps-trans c.args.self.now c.front.new.self c.ask.new.self (lacks_keeps c.args.n c.args.self.now c.loop-value.self c.front.new.self c.loop-value.invariant c.in-None.ensures.none) c.in_ok-ask-in-None.ensures.asks
 
 pub loop-value-smaller : goal.loop-value-smaller
-loop-value-smaller g c = omega (arith, c.in_ok-ask.ensures.fewer, asked_on c.loop-value.self c.front.new.self c.in-None.ensures.none.looks)
+loop-value-smaller g c = omega (arith, c.in_ok-ask-in-None.ensures.fewer, asked_on c.loop-value.self c.front.new.self c.in-None.ensures.none.looks)

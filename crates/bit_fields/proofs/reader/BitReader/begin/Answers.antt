@@ -41,19 +41,19 @@ returns-clause-opens g c =
 pub returns-in_err-first-clause-failed : goal.returns-in_err-first-clause-failed
 returns-in_err-first-clause-failed g c =
     let p = err_from_is_err_and c.from_residual.result c.from_residual.ensures.1 in
-    rw (p.1, p.2) (why_failed (fixed 32) c.args.self.now c.in_err-first.field-0.0 c.fixed.new.self c.in_err-first.ensures.takes)
+    rw p.1 (why_failed (fixed 32) c.args.self.now c.in_err-first.field-0.0 c.fixed.new.self c.in_err-first.ensures.takes)
 
 pub returns-in_err-wrapper-clause-failed : goal.returns-in_err-wrapper-clause-failed
 returns-in_err-wrapper-clause-failed g c =
     let p = err_from_is_err_and c.from_residual-in_err-wrapper.result c.from_residual-in_err-wrapper.ensures.1 in
-    rw (p.1, p.2) (why_failed wrapper c.fixed.new.self c.in_err-wrapper.field-0.0 c.wrapper.new.self c.in_err-wrapper.ensures.takes)
+    rw p.1 (why_failed wrapper c.fixed.new.self c.in_err-wrapper.field-0.0 c.wrapper.new.self c.in_err-wrapper.ensures.takes)
 
 pub returns-in_err-gap-clause-failed : goal.returns-in_err-gap-clause-failed
 returns-in_err-gap-clause-failed g c =
     let p = err_from_is_err_and c.from_residual-in_err-gap.result c.from_residual-in_err-gap.ensures.1 in
-    rw (p.1, p.2) (why_failed (any_bits (8 * (c.in_ok-wrapper.wrapper.offset - 20))) c.wrapper.new.self c.in_err-gap.field-0.0 c.gap.new.self c.in_err-gap.ensures.takes)
+    rw p.1 (why_failed (any_bits (8 * (c.in_ok-wrapper.wrapper.offset - 20))) c.wrapper.new.self c.in_err-gap.field-0.0 c.gap.new.self c.in_err-gap.ensures.takes)
 
 pub returns-in_err-magic-clause-failed : goal.returns-in_err-magic-clause-failed
 returns-in_err-magic-clause-failed g c =
     let p = err_from_is_err_and c.from_residual-in_err-magic.result c.from_residual-in_err-magic.ensures.1 in
-    rw (p.1, p.2) (why_failed inner_magic c.end_after.new.self c.in_err-magic.field-0.0 c.inner_magic.new.self c.in_err-magic.ensures.takes)
+    rw p.1 (why_failed inner_magic c.end_after.new.self c.in_err-magic.field-0.0 c.inner_magic.new.self c.in_err-magic.ensures.takes)
