@@ -1,6 +1,7 @@
-use Rattle.std.proofs.Common.{◌≤◌, ◌<◌, ◌+◌, ◌*◌, ◌-◌, ◌^◌, ap, ◌∙◌, refl, arith}
+use Rattle.std.proofs.Common.{◌≤◌, ◌<◌, ◌+◌, ◌*◌, ◌-◌, ◌^◌, ap, sym, subst, ◌∙◌, refl, arith}
 use Rattle.std.proofs.lemmas.Nat.{one_shl, mod_below, pow_pos}
-use Rattle.bit_fields.specs.Buffered.{BufferedBits, beyond, reader_at}
+use Rattle.bit_fields.specs.Buffered.{BufferedBits, Reads, beyond, reader_at}
+use Rattle.bit_fields.specs.Inside.{part_of}
 use Rattle.bit_fields.specs.PlacedView.{placed}
 use Rattle.bit_fields.proofs.Chunks.{one_chunk, next_chunk, last_chunk, sum_fits}
 use Rattle.bit_fields.proofs.LentParts.{chunking_goes_on}
@@ -25,7 +26,7 @@ loop-place-init c =
     let goes : 2 ^ (n - 1) ≤ c.in_ok-chunk.chunk = let s = one_shl (n - 1) 64 (omega arith) in rw s at c.if-chunk-n.false in
     let below : c.payload_of-value.result < 2 ^ (n - 1) = omega (arith, c.payload_of-value.ensures, mod_below c.in_ok-chunk.chunk (2 ^ (n - 1)) (pow_pos (n - 1))) in
     let after = c.after-bits.ensures.rest ∙ ap (beyond a) c.from.ensures in
-    chunking_goes_on n a (placed c.after-bits.result) c.in_ok-chunk.chunk c.payload_of-value.result c.args.n.some c.args.n.few goes c.payload_of-value.ensures below (omega (arith, ap (λ (x : BufferedBits). x.position) after)) (rw after (front_part n a.position c.in_ok-chunk.chunk a c.in_ok-chunk.ensures.some))
+    chunking_goes_on n a (placed c.after-bits.result) c.in_ok-chunk.chunk c.payload_of-value.result c.args.n.some c.args.n.few goes c.payload_of-value.ensures below (omega (arith, ap (λ (x : BufferedBits). x.position) after)) (subst (Reads (part_of a.position n) a c.in_ok-chunk.chunk) (sym after) (front_part n a.position c.in_ok-chunk.chunk a c.in_ok-chunk.ensures.some))
 
 pub after-bits-requires-in-loop-place : goal.after-bits-requires-in-loop-place
 after-bits-requires-in-loop-place c = omega (arith, c.from-in-loop-place.ensures, c.in_ok-chunk-2.ensures.some.there)
