@@ -304,7 +304,7 @@ impl<S: Source> Inflow<S> {
         if self.holds(n) {
             return Some(self.held_front(n));
         }
-        if self.lent == 0 {
+        if self.there() < u64::from(n) {
             return None;
         }
         self.bits().part(n)

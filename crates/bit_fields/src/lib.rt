@@ -2,9 +2,10 @@
 //! call takes what a rule of `bit_grammar` reads. Begin with `BitReader::start`, which reads the wrapper and the magic of a
 //! `Source` under `Limits`, and with `BitWriter::new` over a `Sink`.
 //!
-//! Three layers, each with its own model: `Inflow` (a source, the bytes taken from it, the end and the limit on bytes), `BitReader`
-//! (position, and whether it is live) and, for output, `BitWriter` over a `Window` of 64 bits. The clause of a reading call is `Takes` in `specs/Reader`; `Spends` and `Fails` in `specs/Devices` say what it
-//! asked of the source. The crates above use these and the lemmas of `proofs/Composing`.
+//! Three layers, each with its own model: `Inflow` (a source, the bytes that were taken from it and those that it lends, the end and the
+//! limit on bytes), `BitReader` (position, and whether it is live) and, for output, `BitWriter` over a `Window` of 64 bits. The clause
+//! of a reading call is `Takes` in `specs/Reader`; `Spends` and `Fails` in `specs/Devices` say what it asked of the source. The crates
+//! above use these and the lemmas of `proofs/Composing`.
 //!
 //! `BitReader::bits` shows the bits that are there, and asks the source for nothing. `PlacedBits` reads fields from them, and
 //! `BitReader::catch_up` moves on by those that were read. `PlacedBits` judges nothing: it reads complete fields and declines the
