@@ -85,7 +85,6 @@ came i j count into gave k =
     let all = (consumed i.to_come j.to_come (take count into) gave.bytes k).1 in
     (all, omega (arith, ap length all, length-append (take count into) (known_bytes j.to_come), length-take-le count into gave.fits))
 
-
 -- ---- a source whose next bytes were lent
 
 pub lending_all : (lent : ℕ) (i : Incoming) → lent ≤ length (known_bytes i.to_come) → lending lent i ≡ i

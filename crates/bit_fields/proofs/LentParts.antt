@@ -96,4 +96,3 @@ byte_numbers (b ∷ bytes) others rest small =
     let first : number (take 8 (bits_of 8 b ++ after)) ≡ b = ap number (take_at (bits_of 8 b) after 8 (length-bits_of 8 b)) ∙ number-bits_of 8 b (small 0) in
     let behind : drop 8 (bits_of 8 b ++ after) ≡ after = drop_at (bits_of 8 b) after 8 (length-bits_of 8 b) in
     ap (numbers 8 (suc (length bytes))) parts ∙ ap (λ (x : ℕ). x ∷ numbers 8 (length bytes) (drop 8 (bits_of 8 b ++ after))) first ∙ ap (λ (s : List Bool). b ∷ numbers 8 (length bytes) s) behind ∙ ap (λ (xs : List ℕ). b ∷ xs) (byte_numbers bytes others rest (λ k. small (suc k)))
-

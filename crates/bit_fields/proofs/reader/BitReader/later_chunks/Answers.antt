@@ -35,9 +35,10 @@ returns-then-chunk-n-clause-takes g c =
 pub loop-place-preserved : goal.loop-place-preserved
 loop-place-preserved g c =
     let worth = c.in-Some.ensures in
-    let goes : 2 ^ (c.args.n.bits - 1) ≤ c.in_ok-chunk.chunk = let s = one_shl (c.args.n.bits - 1) 64 (omega arith) in rw s at c.if-chunk-n.false in
-    (next_chunk c.args.n.bits c.args.first _ c.args.self.now c.loop-place.self c.loop-place.place c.loop-place.value c.in_ok-chunk.chunk c.payload_of.result _ c.part.new.self c.args.n.some c.loop-place-test.true c.loop-place.invariant.0 c.in_ok-chunk.ensures.takes c.payload_of.ensures goes worth.1 (omega (arith, worth.0)),
-     one_gone c.args.n.bits c.args.first c.in_ok-chunk.chunk c.loop-place.place _ c.args.self.now c.loop-place.self c.part.new.self c.args.n.some c.loop-place.invariant.1 c.in_ok-chunk.ensures.takes c.in_ok-chunk.ensures.moves goes refl)
+    let goes : 2 ^ (c.args.n.bits - 1) ≤ c.in_ok-chunk.chunk = let s = one_shl (c.args.n.bits - 1) 64 (omega arith) in rw s at c.if-chunk-n.false in (
+      next_chunk c.args.n.bits c.args.first _ c.args.self.now c.loop-place.self c.loop-place.place c.loop-place.value c.in_ok-chunk.chunk c.payload_of.result _ c.part.new.self c.args.n.some c.loop-place-test.true c.loop-place.invariant.0 c.in_ok-chunk.ensures.takes c.payload_of.ensures goes worth.1 (omega (arith, worth.0)),
+      one_gone c.args.n.bits c.args.first c.in_ok-chunk.chunk c.loop-place.place _ c.args.self.now c.loop-place.self c.part.new.self c.args.n.some c.loop-place.invariant.1 c.in_ok-chunk.ensures.takes c.in_ok-chunk.ensures.moves goes refl,
+    )
 
 pub returns-clause-takes : goal.returns-clause-takes
 returns-clause-takes g c =
