@@ -1,4 +1,3 @@
-use Rattle.std.proofs.Common.{arith}
 use Rattle.std.proofs.lemmas.Result.{err_from_is_err_and}
 use Rattle.bit_fields.proofs.Flowing.{passing_begins, passing_goes_on, passed_all, passed_most, passed_failed}
 use Rattle.bit_fields.proofs.inflow.pass_all.Goals as goal

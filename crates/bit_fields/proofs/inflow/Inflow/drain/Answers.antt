@@ -1,5 +1,5 @@
-use Rattle.std.proofs.Common.{refl, arith}
-use Rattle.bit_fields.proofs.Flowing.{stops_reading, drained_all, drained_before, overran, drain_failed}
+use Rattle.std.proofs.Common.{refl}
+use Rattle.bit_fields.proofs.Flowing.{drained_before}
 use Rattle.bit_fields.proofs.inflow.Inflow.drain.Goals as goal
 
 pub returns-then-self : goal.returns-then-self

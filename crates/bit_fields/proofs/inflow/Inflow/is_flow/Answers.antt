@@ -1,5 +1,4 @@
-use Rattle.std.proofs.Common.{length, ◌≤◌, sym, ap, subst, arith}
-use Rattle.bit_fields.specs.Devices.{known_bytes}
+use Rattle.std.proofs.Common.{length, ap, arith}
 use Rattle.bit_fields.proofs.InflowLaws.{lent_known, lent_bytes}
 use Rattle.bit_fields.proofs.inflow.Inflow.is_flow.Goals as goal
 

@@ -1,5 +1,5 @@
 use Rattle.std.proofs.Common.{arith}
-use Rattle.std.proofs.lemmas.Bool.{ltb-true, false≢true}
+use Rattle.std.proofs.lemmas.Bool.{ltb-true}
 use Rattle.bit_fields.proofs.inflow.Inflow.is_in_place.Goals as goal
 
 pub returns-then-held-self : goal.returns-then-held-self

@@ -1,6 +1,6 @@
 use Rattle.std.proofs.Common.{◌≤◌, ◌+◌, ◌*◌, ◌-◌, ◌/◌, length, subst, sym, refl, arith}
 use Rattle.bit_fields.specs.Inflow.{Flow}
-use Rattle.bit_fields.proofs.Asking.{passes, passes_unseen, lost, going_so, none_over, read_lent}
+use Rattle.bit_fields.proofs.Asking.{passes, passes_unseen}
 use Rattle.bit_fields.proofs.inflow.Inflow.pass_read.Goals as goal
 use Rattle.bit_fields.proofs.inflow.Inflow.pass_read.Goals.{then-count-eq0, else-count-eq0}
 

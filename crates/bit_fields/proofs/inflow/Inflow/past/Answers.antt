@@ -1,6 +1,6 @@
 use Rattle.std.proofs.Common.{◌≡◌, ◌≤◌, false, subst, sym, refl, arith}
 use Rattle.bit_fields.specs.Inflow.{Flow, stop_of, taken_of}
-use Rattle.bit_fields.proofs.Asking.{stops_at_end, stops_at_limit, ends_here, goes_past, lost}
+use Rattle.bit_fields.proofs.Asking.{stops_at_end, stops_at_limit, ends_here, goes_past}
 use Rattle.bit_fields.proofs.inflow.Inflow.past.Goals as goal
 
 pub returns-then-self : goal.returns-then-self

@@ -1,8 +1,8 @@
-use Rattle.std.proofs.Common.{◌≡◌, ◌≤◌, ◌<◌, ◌+◌, ◌-◌, ◌⊎◌, length, take, false, arith, subst, sym, refl, inl, inr}
+use Rattle.std.proofs.Common.{◌≡◌, ◌≤◌, ◌<◌, ◌-◌, ◌⊎◌, length, take, false, arith, subst, sym, refl, inl, inr}
 use Rattle.std.proofs.lemmas.List.{take_at}
 use borrow.Rule.Slice.PartMut.{mid_len}
 use Rattle.bit_fields.specs.Inflow.{Flow, stop_of, taken_of, carried_of}
-use Rattle.bit_fields.proofs.Asking.{joined, pulled_any, ends_here, lost, written_behind, over_none}
+use Rattle.bit_fields.proofs.Asking.{joined, pulled_any, ends_here, written_behind, over_none}
 use Rattle.bit_fields.proofs.inflow.Inflow.pull.Goals as goal
 use Rattle.bit_fields.proofs.inflow.Inflow.pull.Goals.{then-count-eq0+else-self-eq0, else-count-eq0}
 

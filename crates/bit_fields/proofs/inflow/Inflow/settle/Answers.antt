@@ -1,4 +1,4 @@
-use Rattle.std.proofs.Common.{inl, inr, arith}
+use Rattle.std.proofs.Common.{inl, inr}
 use Rattle.bit_fields.specs.Inflow.{budget_of}
 use Rattle.bit_fields.proofs.InflowLaws.{Keeps-refl, Keeps-trans, fails_later}
 use Rattle.bit_fields.proofs.inflow.Inflow.settle.Goals as goal

@@ -1,4 +1,3 @@
-use Rattle.std.proofs.Common.{arith}
 use Rattle.bit_fields.proofs.Flowing.{skipped}
 use Rattle.bit_fields.proofs.inflow.Inflow.skip.Goals as goal
 

@@ -1,4 +1,4 @@
-use Rattle.std.proofs.Common.{refl, ap, ◌≡◌, ◌-◌, ◌%◌, arith}
+use Rattle.std.proofs.Common.{◌-◌, ◌%◌, arith}
 use Rattle.bit_fields.specs.PlacedView.{placed}
 use Rattle.bit_fields.proofs.PlacedFields.{front_pads}
 use Rattle.bit_fields.proofs.placed.PlacedBits.padded.Goals as goal

@@ -1,4 +1,4 @@
-use Rattle.std.proofs.Common.{◌≡◌, ◌≤◌, ◌*◌, ◌+◌, length, arith}
+use Rattle.std.proofs.Common.{◌≤◌, length, arith}
 use Rattle.bit_fields.specs.PlacedView.{placed}
 use Rattle.bit_fields.proofs.Placing.{length_at}
 use Rattle.bit_fields.proofs.PlacedFields.{front_is, masked_is}

@@ -1,6 +1,5 @@
-use Rattle.std.proofs.Common.{◌≡◌, ℕ, ◌+◌, ◌-◌, ◌*◌, sym, ◌∙◌, ap, subst, arith, refl, length, drop}
-use Rattle.std.proofs.lemmas.List.{length-drop}
-use Rattle.bit_fields.specs.Buffered.{BufferedBits, beyond}
+use Rattle.std.proofs.Common.{◌≡◌, ℕ, ◌+◌, ◌-◌, sym, subst, arith}
+use Rattle.bit_fields.specs.Buffered.{BufferedBits}
 use Rattle.bit_fields.specs.Placed.{HasNumbers}
 use Rattle.bit_fields.specs.PlacedView.{placed}
 use Rattle.bit_fields.proofs.Placing.{has_none}

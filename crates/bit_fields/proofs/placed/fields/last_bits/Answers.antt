@@ -1,4 +1,3 @@
-use Rattle.std.proofs.Common.{drop, length}
 use Rattle.bit_fields.proofs.PlacedFields.{last_shown}
 use Rattle.bit_fields.proofs.placed.fields.last_bits.Goals as goal
 

@@ -1,5 +1,4 @@
-use Rattle.std.proofs.Common.{◌∙◌, sym, arith}
-use Rattle.bit_fields.proofs.Showing.{moved_on, stays_there}
+use Rattle.std.proofs.Common.{arith}
 use Rattle.bit_fields.proofs.reader.BitReader.catch_up.Goals as goal
 
 pub overflow_add-self : goal.overflow_add-self

@@ -1,5 +1,3 @@
-use Rattle.std.proofs.Common.{◌≡◌, true, ap, ◌∙◌}
-use Rattle.bit_fields.specs.Reader.{Reader}
 use Rattle.bit_fields.proofs.AtTheEnd.{closed, closes_failed, closes_short}
 use Rattle.bit_fields.proofs.reader.BitReader.close.Goals as goal
 

@@ -1,10 +1,9 @@
-use Rattle.std.proofs.Common.{◌≡◌, ℕ, true, ap, ◌∙◌, subst, arith}
+use Rattle.std.proofs.Common.{◌≡◌, ℕ, ap, ◌∙◌, subst, arith}
 use Rattle.bit_fields.specs.Inflow.{Advances, TakesBits}
 use Rattle.bit_fields.specs.Reader.{Reader}
 use Rattle.bit_fields.proofs.Composing.{took_nothing}
 use Rattle.bit_fields.proofs.Flowing.{takes_bits}
 use Rattle.bit_fields.proofs.Padding.{zeros_took}
-use Rattle.bit_fields.proofs.Parts.{looked_as}
 use Rattle.bit_fields.proofs.reader.BitReader.held_zeros.Goals as goal
 
 pub returns-then-count-eq0-clause-none : goal.returns-then-count-eq0-clause-none

@@ -1,5 +1,5 @@
 use Rattle.std.proofs.Common.{ℕ, arith}
-use Rattle.bit_fields.proofs.Parts.{took_as, missed_as, misses_exact}
+use Rattle.bit_fields.proofs.Parts.{took_as, missed_as}
 use Rattle.bit_fields.proofs.Asked.{missed_within}
 use Rattle.bit_fields.proofs.reader.BitReader.late_part.Goals as goal
 

@@ -1,4 +1,4 @@
-use Rattle.std.proofs.Common.{◌≡◌, ℕ, ◌+◌, Ok, Err, arith}
+use Rattle.std.proofs.Common.{ℕ, ◌+◌, Ok, Err, arith}
 use Rattle.std.proofs.lemmas.Result.{err_from_is_err_and}
 use Rattle.bit_grammar.specs.Fields.{zeros}
 use Rattle.bit_fields.specs.Short.{TookNothing}

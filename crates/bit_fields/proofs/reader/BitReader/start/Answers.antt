@@ -1,7 +1,6 @@
 use Rattle.std.proofs.Common.{◌≡◌, ℕ, ◌+◌, ◌-◌, ◌^◌, ◌<◌, min, true, false, [], length, take, ap, ◌∙◌, subst, arith}
 use Rattle.bit_grammar.specs.Bits.{bits_of_bytes}
 use Rattle.bit_fields.specs.Devices.{Incoming, known_bytes}
-use Rattle.bit_fields.specs.Inflow.{Flow}
 use Rattle.bit_fields.specs.Inside.{reader_of}
 use Rattle.bit_fields.specs.Opening.{fresh, Declines}
 use Rattle.bit_fields.specs.Reader.{Reader}
