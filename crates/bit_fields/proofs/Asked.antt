@@ -1,5 +1,5 @@
 -- How far bytes were taken from a source that failed.
-use Rattle.std.proofs.Common.{◌≡◌, ℕ, zero, suc, ◌+◌, ◌*◌, ◌-◌, ◌^◌, ◌<◌, ◌≤◌, Bool, true, false, leb, List, [], length, take, drop, get_or, Result, Ok, Err, refl, sym, ap, ◌∙◌, subst, arith, inl, inr}
+use Rattle.std.proofs.Common.{◌≡◌, ℕ, zero, suc, ◌+◌, ◌*◌, ◌-◌, ◌^◌, ◌<◌, ◌≤◌, Bool, true, false, leb, List, length, take, drop, get_or, Result, Ok, Err, sym, ap, ◌∙◌, subst, arith, inl, inr}
 use Rattle.std.proofs.lemmas.Bool.{cases_lt, le-leb}
 use Rattle.std.proofs.lemmas.List.{get_or-drop, get_or-take, length-take-le}
 use Rattle.bit_grammar.specs.Bits.{number}
@@ -10,7 +10,7 @@ use Rattle.bit_fields.specs.declared.inflow.Missing.TheVariants as missing
 use Rattle.bit_fields.specs.Buffered.{BufferedBits}
 use Rattle.bit_fields.specs.Inflow.{Flow, Misses}
 use Rattle.bit_fields.specs.Inside.{part_of, fault_of_missing, reader_of, IsReader}
-use Rattle.bit_fields.specs.Reader.{Reader, TellsBytes, Took, FailsWithin, FailsInChunk, AsksByChunk, stopped_at}
+use Rattle.bit_fields.specs.Reader.{Reader, TellsBytes, Took, FailsWithin, AsksByChunk, stopped_at}
 use Rattle.bit_fields.proofs.BitLaws.{drop_more}
 use Rattle.bit_fields.proofs.Chunks.{chunk_parts}
 use Rattle.bit_fields.proofs.LentParts.{part_passed, part_told}

@@ -1,17 +1,16 @@
 -- A source that is asked for bytes.
-use Rattle.std.proofs.Common.{◌≡◌, ℕ, zero, suc, ◌+◌, ◌*◌, ◌-◌, ◌/◌, ◌%◌, ◌^◌, ◌<◌, ◌≤◌, ◌⊎◌, min, Bool, true, false, cond, if◌then◌else◌, ltb, List, [], ◌∷◌, ◌++◌, length, take, drop, Option, Some, None, Result, Ok, Err, refl, sym, ap, ◌∙◌, subst, arith, append_assoc, take-take, inl, inr}
+use Rattle.std.proofs.Common.{◌≡◌, ℕ, ◌+◌, ◌*◌, ◌-◌, ◌/◌, ◌<◌, ◌≤◌, ◌⊎◌, Bool, true, false, ltb, List, [], ◌++◌, length, take, drop, Option, Some, None, Result, Ok, Err, refl, sym, ap, ◌∙◌, subst, arith, append_assoc, take-take, inl, inr}
 use Rattle.std.specs.Prelude.{IsSome}
 use Rattle.std.proofs.lemmas.Bool.{cases_lt, false≢true, le-ltb, lt-ltb, and_right, and_left, and_from}
-use Rattle.std.proofs.lemmas.List.{append-nil, length-append, length-take, length-take-le, length-drop, take-append-drop, take-append-le, take_at, drop-take}
+use Rattle.std.proofs.lemmas.List.{length-append, length-take, length-take-le, length-drop, take-append-drop, take-append-le, take_at, drop-take}
 use Rattle.std.proofs.Math.Seq.{take-append-add}
-use Rattle.std.specs.Io.KnownBytes.{IsAtEnd}
 use Rattle.bit_fields.specs.declared.inflow.Missing.{Missing}
 use Rattle.bit_fields.specs.declared.inflow.Missing.TheVariants.{End, Limit, Read}
 use Rattle.bit_grammar.specs.Bits.{bits_of_bytes}
-use Rattle.bit_fields.specs.Devices.{Incoming, Begins, Gave, GaveNone, GaveUnseen, Looked, Spends, Fails, known_bytes}
-use Rattle.bit_fields.specs.Inflow.{Flow, lending, IsKnown, stop_of, place_of, taken_of, flow_bits, total_of, is_flow_cut, budget_of, carried_of, IsFlow, Copies, KeepsFlow, LooksOn, Drops, NoMore, LostFlow, Asks, to_ask}
-use Rattle.bit_fields.proofs.BitLaws.{bits_of_bytes-append, length-bits_of_bytes, take_whole}
-use Rattle.bit_fields.proofs.InflowLaws.{Spends-refl, Spends-trans, fails_later, Keeps-refl, Keeps-trans, looked_spends, kept, at_end, came, gave_spends, lending_all, lent_known, lent_bytes, lent_after, lent_at_end, StillLent, spends_lent, fails_lent, looked_still, looked_lent, none_fails, drop_front, flow_length, looks_on}
+use Rattle.bit_fields.specs.Devices.{Incoming, Begins, Gave, GaveNone, GaveUnseen, Looked, Spends, known_bytes}
+use Rattle.bit_fields.specs.Inflow.{Flow, lending, IsKnown, stop_of, taken_of, total_of, budget_of, carried_of, IsFlow, Copies, KeepsFlow, LooksOn, Drops, NoMore, LostFlow, Asks, to_ask}
+use Rattle.bit_fields.proofs.BitLaws.{take_whole}
+use Rattle.bit_fields.proofs.InflowLaws.{Spends-refl, Spends-trans, fails_later, Keeps-refl, Keeps-trans, looked_spends, kept, at_end, came, gave_spends, lent_known, lent_bytes, lent_after, lent_at_end, StillLent, spends_lent, fails_lent, looked_still, none_fails, drop_front, flow_length}
 
 -- ---- the source of a flow
 

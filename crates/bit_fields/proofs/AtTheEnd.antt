@@ -1,11 +1,11 @@
 -- The end of a stream, and of its input.
-use Rattle.std.proofs.Common.{◌≡◌, ℕ, ◌+◌, ◌*◌, ◌-◌, ◌/◌, ◌^◌, ◌<◌, ◌≤◌, min, Bool, true, false, ◌&&◌, ltb, [], length, Result, Ok, Err, refl, sym, ap, ◌∙◌, subst, arith, inl, inr}
+use Rattle.std.proofs.Common.{◌≡◌, ℕ, ◌+◌, ◌*◌, ◌-◌, ◌/◌, ◌^◌, ◌<◌, ◌≤◌, min, Bool, true, false, ◌&&◌, ltb, length, Ok, Err, refl, sym, ap, ◌∙◌, subst, arith, inl, inr}
 use Rattle.std.proofs.lemmas.Bool.{cases_lt, false≢true, le-ltb, lt-ltb, and_from, and_left, and_right}
 use Rattle.std.proofs.lemmas.List.{nil_from_length}
 use Rattle.bit_fields.specs.declared.fault.Fault.{Fault}
 use Rattle.bit_fields.specs.declared.inflow.Missing.TheVariants as missing
 use Rattle.bit_fields.specs.declared.inflow.Missing.{Missing}
-use Rattle.bit_grammar.specs.declared.reason.Reason.TheVariants.{TooLong, WrapperSize}
+use Rattle.bit_grammar.specs.declared.reason.Reason.TheVariants.{WrapperSize}
 use Rattle.bit_grammar.specs.Grammar.{at}
 use Rattle.bit_fields.specs.Devices.{known_bytes}
 use Rattle.bit_fields.specs.Inflow.{Flow, IsKnown, IsFlow, place_of, stop_of, flow_bits, total_of, budget_of, KeepsFlow, RunsOut, Waits, Drained, DrainFails}

@@ -1,12 +1,10 @@
 -- Bits that are there: one field after another, and what a reader takes when it moves on by them.
-use Rattle.std.proofs.Common.{◌≡◌, ℕ, ◌+◌, ◌-◌, ◌≤◌, Bool, true, List, ◌++◌, length, drop, Result, Ok, Err, refl, sym, ap, ◌∙◌, subst, arith, append_assoc}
+use Rattle.std.proofs.Common.{◌≡◌, ℕ, ◌+◌, ◌-◌, ◌≤◌, Bool, true, List, ◌++◌, length, drop, Result, Ok, refl, sym, ap, ◌∙◌, subst, arith, append_assoc}
 use Rattle.std.proofs.lemmas.List.{length-append, drop_at}
-use Rattle.bit_grammar.specs.Grammar as grammar
 use Rattle.bit_grammar.specs.Grammar.{Grammar, gives, ◌>>=◌, Spells, reading}
 use Rattle.bit_grammar.proofs.Readings.Deciding.{reads, is_spelled}
 use Rattle.bit_fields.specs.declared.fault.Fault.{Fault}
-use Rattle.bit_fields.specs.declared.fault.Fault.TheVariants.{Refused, Read, Write, Memory, OutputTooLong, Failed}
-use Rattle.bit_fields.specs.Reader.{Reader, TellsBytes, Breaks, SpellsTo, Took, Why, Takes}
+use Rattle.bit_fields.specs.Reader.{Reader, TellsBytes, SpellsTo, Took, Takes}
 use Rattle.bit_fields.specs.Short.{TookNothing}
 use Rattle.bit_fields.specs.Devices.{Spends}
 use Rattle.bit_fields.proofs.Composing.{spells_read, took_then, same_reading}

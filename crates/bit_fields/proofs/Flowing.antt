@@ -1,6 +1,6 @@
 -- Bits of a flow that are shown and read.
-use Rattle.std.proofs.Common.{◌≡◌, ℕ, zero, suc, ◌+◌, ◌*◌, ◌-◌, ◌<◌, ◌≤◌, ◌⊎◌, min, Bool, true, false, if◌then◌else◌, List, [], ◌++◌, length, take, drop, Option, Some, None, Result, Ok, Err, refl, sym, ap, ◌∙◌, subst, arith, append_assoc, take-take, inl, inr, ◌∷◌}
-use Rattle.std.proofs.lemmas.Bool.{false≢true, cases_lt}
+use Rattle.std.proofs.Common.{◌≡◌, ℕ, ◌+◌, ◌*◌, ◌-◌, ◌<◌, ◌≤◌, ◌⊎◌, min, Bool, true, false, List, [], ◌++◌, length, take, drop, Option, Some, None, Ok, Err, refl, sym, ap, ◌∙◌, subst, arith, append_assoc, take-take, inl, inr}
+use Rattle.std.proofs.lemmas.Bool.{cases_lt}
 use Rattle.std.proofs.lemmas.List.{take_at, drop_at, append-nil, length-append, length-take, length-take-le, length-drop, take-append-drop, take-append-le, drop-append-le, drop-take, nil_from_length}
 use Rattle.std.proofs.Math.Seq.{take-append-add}
 use Rattle.std.specs.Prelude.{IsSome, IfSome, IfNone}
@@ -12,10 +12,10 @@ use Rattle.bit_fields.specs.Reader.{GivenBack}
 use Rattle.bit_fields.specs.Placed.{IsFront, bits_at}
 use Rattle.bit_fields.specs.declared.inflow.Missing.{Missing}
 use Rattle.bit_fields.specs.declared.inflow.Missing.TheVariants.{End, Limit, Read}
-use Rattle.bit_fields.specs.Inflow.{Flow, lending, IsKnown, stop_of, place_of, taken_of, flow_bits, total_of, budget_of, carried_of, there_of, IsFlow, Copies, KeepsFlow, LooksOn, Shows, ShowsFront, Advances, TakesBits, Lacks, Asks, RunsOut, FailsFirst, Misses, Waits, Skips, Shortens, IsSettled, Settles, HandsOver, TookAll, TookMost, Drained, Overran, to_ask}
+use Rattle.bit_fields.specs.Inflow.{Flow, lending, IsKnown, stop_of, place_of, taken_of, flow_bits, budget_of, there_of, IsFlow, Copies, KeepsFlow, LooksOn, Shows, ShowsFront, Advances, TakesBits, Lacks, Asks, Misses, Waits, Skips, Shortens, IsSettled, Settles, HandsOver, TookAll, TookMost, Drained, Overran}
 use Rattle.bit_fields.proofs.BitLaws.{bits_of_bytes-append, bits_of_bytes-take, length-bits_of_bytes, drop_more, take_whole}
-use Rattle.bit_fields.proofs.InflowLaws.{drop_front, flow_length, Spends-refl, Spends-trans, Spends-none, fails_later, kept, at_end, came, gave_spends, Keeps-trans, looks_on, lent_known, lent_bytes, lent_after, lent_at_end, looked_lent, lending_all, StillLent, spends_lent, fails_lent, none_fails}
-use Rattle.bit_fields.proofs.Asking.{known_so, bytes_so, moved_bits, shown_front, carried_on}
+use Rattle.bit_fields.proofs.InflowLaws.{drop_front, flow_length, Spends-refl, Spends-trans, Spends-none, fails_later, kept, at_end, came, gave_spends, Keeps-trans, looks_on, lent_known, lent_bytes, lent_after, looked_lent, lending_all, StillLent, spends_lent, fails_lent, none_fails}
+use Rattle.bit_fields.proofs.Asking.{known_so, bytes_so, shown_front, carried_on}
 
 -- ---- bits that are shown
 

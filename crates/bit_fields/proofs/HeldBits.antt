@@ -1,6 +1,5 @@
 -- Bits of the carry, as a load of eight bytes has them.
-use Rattle.std.proofs.Common.{◌≡◌, ℕ, ◌+◌, ◌*◌, ◌-◌, ◌/◌, ◌%◌, ◌^◌, ◌<◌, ◌≤◌, Bool, List, ◌++◌, length, take, drop, refl, sym, ap, ◌∙◌, arith, take-take, bit_and, inl, inr}
-use Rattle.std.proofs.lemmas.Bool.{cases_lt}
+use Rattle.std.proofs.Common.{◌≡◌, ℕ, ◌+◌, ◌*◌, ◌-◌, ◌/◌, ◌%◌, ◌^◌, ◌<◌, ◌≤◌, Bool, List, ◌++◌, length, take, drop, sym, ap, ◌∙◌, arith, take-take, bit_and}
 use Rattle.std.proofs.lemmas.List.{length-take-le, length-drop, drop-take, take-append-le, drop-append-le}
 use Rattle.bit_grammar.specs.Bits.{bits_of, bits_of_bytes, number}
 use Rattle.bit_fields.specs.Inflow.{Flow, IsFlow, ShowsFront, stop_of, flow_bits}

@@ -1,13 +1,13 @@
 -- The state after asking the source for bytes.
-use Rattle.std.proofs.Common.{◌≡◌, ℕ, zero, suc, ◌+◌, ◌*◌, ◌-◌, ◌/◌, ◌%◌, ◌^◌, ◌<◌, ◌≤◌, ◌⊎◌, max, min, Bool, true, false, cond, ltb, leb, List, [], ◌++◌, length, take, drop, Option, Some, None, refl, sym, ap, ◌∙◌, subst, arith, append_assoc, inl, inr}
+use Rattle.std.proofs.Common.{◌≡◌, ℕ, ◌+◌, ◌*◌, ◌-◌, ◌^◌, ◌<◌, ◌≤◌, ◌⊎◌, max, min, Bool, true, false, cond, leb, List, [], ◌++◌, length, take, drop, Option, Some, None, refl, sym, ap, ◌∙◌, subst, arith, inl, inr}
 use Rattle.std.specs.Prelude.{IsSome, is_some}
 use Rattle.std.specs.Io.KnownBytes as bytes
-use Rattle.std.proofs.lemmas.Bool.{false≢true, le-ltb, lt-ltb, le-leb, lt-leb, cases_lt, and_right, and_left, and_from}
-use Rattle.std.proofs.lemmas.List.{append-nil, length-append, length-take, length-take-le, length-drop, take-append-drop, take-take}
+use Rattle.std.proofs.lemmas.Bool.{false≢true, le-leb, lt-leb, cases_lt}
+use Rattle.std.proofs.lemmas.List.{length-append, length-take, length-take-le, length-drop}
 use Rattle.std.proofs.Math.Seq.{take-append-add, drop-append-add}
 use Rattle.bit_grammar.specs.Bits.{bits_of_bytes}
-use Rattle.bit_fields.specs.Devices.{Incoming, Begins, Gave, GaveNone, Looked, Spends, Fails, IsWorn, known_bytes}
-use Rattle.bit_fields.specs.Inflow.{Flow, lending, IsKnown, stop_of, place_of, taken_of, flow_bits, total_of, is_flow_cut, budget_of, carried_of, there_of, IsFlow, KeepsFlow, LooksOn, Drops, NoMore, LostFlow, to_ask}
+use Rattle.bit_fields.specs.Devices.{Incoming, Gave, GaveNone, Looked, Spends, Fails, IsWorn, known_bytes}
+use Rattle.bit_fields.specs.Inflow.{Flow, lending, IsKnown, stop_of, place_of, taken_of, flow_bits, total_of, budget_of, IsFlow, KeepsFlow, LooksOn}
 use Rattle.bit_fields.proofs.BitLaws.{bits_of_bytes-append, length-bits_of_bytes}
 
 -- ---- what is paid

@@ -1,25 +1,19 @@
 -- Reading bits in a window and in the bytes after it.
-use Rattle.std.proofs.Common.{◌≡◌, ℕ, suc, ◌+◌, ◌*◌, ◌-◌, ◌/◌, ◌%◌, ◌^◌, ◌<◌, ◌≤◌, Bool, List, [], ◌∷◌, ◌++◌, length, take, drop, Result, Ok, Err, Bor, refl, sym, ap, ◌∙◌, subst, arith, append_assoc, get_or, inl, inr}
+use Rattle.std.proofs.Common.{◌≡◌, ℕ, suc, ◌+◌, ◌-◌, ◌%◌, ◌^◌, ◌<◌, ◌≤◌, Bool, List, [], ◌∷◌, ◌++◌, length, take, drop, Result, Ok, Err, refl, sym, ap, ◌∙◌, subst, arith, append_assoc, get_or, inl, inr}
 use Rattle.std.proofs.lemmas.Bool.{cases_lt}
-use Rattle.std.proofs.lemmas.List.{append-nil, length-append, length-drop, drop-append-le, take_at, drop_at, nil_from_length}
-use Rattle.std.proofs.Math.Seq.{drop-append-add}
+use Rattle.std.proofs.lemmas.List.{append-nil, take_at, drop_at}
 use Rattle.bit_grammar.specs.declared.reason.Reason.TheVariants.{Truncated}
 use Rattle.bit_grammar.specs.Bits.{number, bits_of, bits_of_bytes}
-use Rattle.bit_grammar.specs.Grammar.{Fault, at, repeat, reading}
-use Rattle.bit_grammar.specs.Fields.{fixed, vbr, char6, zeros, padding_length, align32}
-use Rattle.bit_grammar.specs.Terms.{character}
+use Rattle.bit_grammar.specs.Grammar.{Fault, at, reading}
+use Rattle.bit_grammar.specs.Fields.{fixed, vbr, zeros, padding_length, align32}
 use Rattle.bit_fields.specs.Inside.{part_of, numbers}
 use Rattle.bit_fields.specs.Reader.{Took}
-use Rattle.bit_fields.specs.Short.{EndsAt, payload_number}
 use Rattle.bit_grammar.proofs.Bits.Numbers.{length-bits_of, number-bits_of}
 use Rattle.bit_fields.specs.Buffered.{BufferedBits, Reads, reader_at, beyond}
-use Rattle.bit_fields.proofs.BitLaws.{length-bits_of_bytes, bits_of_bytes-append, bytes_dropped, drop_more}
 use Rattle.bit_fields.proofs.Parts.{part_at, part_short}
 use Rattle.bit_fields.proofs.Padding.{zeros_at}
-use Rattle.bit_fields.proofs.Short.{vbr_reads}
-use Rattle.bit_fields.proofs.Chunks.{one_chunk, several_chunks, chunking_begins, Chunking}
-use Rattle.bit_fields.proofs.Skipping.{fields_whole}
-use Rattle.bit_fields.proofs.BufferedReads.{reads_took, took_reads}
+use Rattle.bit_fields.proofs.Chunks.{several_chunks, chunking_begins, Chunking}
+use Rattle.bit_fields.proofs.BufferedReads.{reads_took}
 
 pub parts_is : (p q : ℕ) (s t : List Bool) → p ≡ q → s ≡ t → ◌≡◌ {A = BufferedBits} (record { position = p; bits = s }) (record { position = q; bits = t })
 parts_is p q s t place same = rw (place, same) refl

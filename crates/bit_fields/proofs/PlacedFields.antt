@@ -1,12 +1,12 @@
 -- Fields of placed bits.
-use Rattle.std.proofs.Common.{◌≡◌, ℕ, zero, suc, ◌+◌, ◌*◌, ◌-◌, ◌/◌, ◌%◌, ◌^◌, ◌<◌, ◌≤◌, Bool, List, [], ◌++◌, length, take, drop, Ok, refl, sym, ap, ◌∙◌, subst, arith, get_or, bit_and}
-use Rattle.std.proofs.lemmas.List.{take-append-drop, length-drop, length-append, length-take, length-take-le, append-nil, drop-take, take-append-le, drop_at}
+use Rattle.std.proofs.Common.{◌≡◌, ℕ, ◌+◌, ◌*◌, ◌-◌, ◌/◌, ◌%◌, ◌^◌, ◌<◌, ◌≤◌, Bool, List, [], ◌++◌, length, take, drop, Ok, refl, sym, ap, ◌∙◌, subst, arith, get_or, bit_and}
+use Rattle.std.proofs.lemmas.List.{take-append-drop, length-drop, length-append, append-nil, drop-take, take-append-le}
 use Rattle.std.proofs.lemmas.Nat.{and_mask, one_shl, pow_pos}
 use Rattle.std.proofs.Math.Nat.{mod-eq_of_lt}
 use Rattle.std.proofs.Math.Seq.{take-append-add}
 use Rattle.bit_grammar.specs.Bits.{bits_of, bits_of_bytes, number}
 use Rattle.bit_grammar.specs.Grammar.{repeat, reading}
-use Rattle.bit_grammar.specs.Fields.{fixed, vbr, align32, padding_length}
+use Rattle.bit_grammar.specs.Fields.{fixed, align32, padding_length}
 use Rattle.bit_fields.specs.Buffered.{BufferedBits, Reads, reader_at, beyond}
 use Rattle.bit_fields.specs.Reader.{Took}
 use Rattle.bit_fields.proofs.BufferedReads.{reads_took}

@@ -1,9 +1,9 @@
 -- A reader that shows bits, moves on by them, and returns its source.
-use Rattle.std.proofs.Common.{◌≡◌, ℕ, ◌+◌, ◌-◌, ◌<◌, ◌≤◌, ◌⊎◌, Bool, true, false, List, [], ◌++◌, length, refl, sym, ap, ◌∙◌, subst, arith, inl, inr}
+use Rattle.std.proofs.Common.{◌≡◌, ℕ, ◌+◌, ◌-◌, ◌≤◌, ◌⊎◌, Bool, true, false, [], length, refl, sym, ap, ◌∙◌, subst, arith, inl, inr}
 use Rattle.std.proofs.lemmas.Bool.{false≢true}
-use Rattle.bit_fields.specs.Buffered.{BufferedBits, OnlyLooks, ShowsBits, reader_further}
+use Rattle.bit_fields.specs.Buffered.{BufferedBits, ShowsBits, reader_further}
 use Rattle.bit_fields.specs.Devices.{Incoming, Spends, Fails}
-use Rattle.bit_fields.specs.Inflow.{Flow, flow_bits, total_of, budget_of, there_of, place_of, Shows, Advances, HandsOver}
+use Rattle.bit_fields.specs.Inflow.{Flow, budget_of, there_of, Shows, Advances, HandsOver}
 use Rattle.bit_fields.specs.Inside.{reader_of, IsReader}
 use Rattle.bit_fields.specs.Reader.{Reader, GivenBack, Returned}
 use Rattle.bit_fields.proofs.InflowLaws.{looks_on}

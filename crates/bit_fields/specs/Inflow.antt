@@ -1,5 +1,5 @@
 -- The bits of a stream that a source still gives, and the state after reading some.
-use Rattle.std.specs.Prelude.{◌≡◌, ℕ, ◌+◌, ◌-◌, ◌*◌, ◌^◌, ◌<◌, ◌≤◌, ◌⊎◌, min, Bool, true, false, if◌then◌else◌, List, [], ◌++◌, length, take, drop, Option, Some, None, IsSome, Result, Ok, Err, nat_lt, nat_le, ◌&&◌}
+use Rattle.std.specs.Prelude.{◌≡◌, ℕ, ◌+◌, ◌-◌, ◌*◌, ◌^◌, ◌<◌, ◌≤◌, ◌⊎◌, min, Bool, true, false, if◌then◌else◌, List, [], ◌++◌, length, take, drop, Option, None, IsSome, Result, Ok, Err, nat_lt, nat_le, ◌&&◌}
 use Rattle.std.specs.Io.KnownBytes.{IsAtEnd}
 use Rattle.bit_grammar.specs.Bits.{number, bits_of_bytes}
 use Rattle.bit_fields.specs.Buffered.{BufferedBits}
