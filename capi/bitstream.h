@@ -9,8 +9,8 @@
      and may be null if the length is 0. Lengths are below 2^63 bytes. Objects that are not const are initialised. No argument that
      is not const overlaps another argument.
    - A bool is 0 or 1.
-   - malloc, realloc and free of the program are of one allocator, and align a block to each power of two up to 16 that divides
-     its size. No call is made from a signal handler, or from the forked child of a process with threads.
+   - malloc, realloc and free come from one allocator, with C's usual alignment. No call is made from a signal handler, or from
+     the forked child of a process with threads.
 
    Calls in several threads do not disturb each other. A handle is used by one call at a time, in any thread.
    No call keeps a pointer that it is passed, except bs_open.
@@ -108,8 +108,8 @@ struct bs_bytes {
 };
 #define BS_NO_BYTES {NULL, 0}
 
-/* The version of these calls, structures and numbers, and that of a library. They are the same if a program was built for the
-   library that it runs with. An added call does not change the version. */
+/* The version of these calls, structures and numbers: BS_VERSION of the header, bs_version of the library. Stop if they differ. An
+   added call does not change the version. */
 #define BS_VERSION 1
 uint32_t bs_version(void);
 
@@ -132,8 +132,8 @@ uint32_t bs_check(const uint8_t *bytes, size_t bytes_len, const struct bs_limits
    unchanged. Or BS_REFUSED, BS_TOO_LONG, BS_MEMORY, BS_LIMITS, BS_NAMES: `needed` is 0, and the room is unchanged.
 
    Reads the bytes once for any room, so asking for the length with room 0 takes as long as the form. Holds D, N and the form,
-   which may be much longer than the input and is at most the limit on bytes; and the form once more if it fits the room. If the
-   length is not known, bs_hold_normal makes the form once. */
+   which may be much longer than the input and is at most the limit on bytes, and of the form 1 MiB a second time. If the length
+   is not known, bs_hold_normal makes the form once. */
 uint32_t bs_normal(const uint8_t *bytes, size_t bytes_len, const struct bs_limits *limits, const struct bs_left_out *left_out,
                    uint8_t *room, size_t room_len, size_t *needed, struct bs_fault *fault);
 

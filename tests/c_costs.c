@@ -1,6 +1,6 @@
 /* Makes one call of the C library for a text of standard input, for tests/costs: c_costs CALL ROOM, where CALL is normal, report, show
    or kept, which is normal without the records of code 1 in blocks with id 8, and ROOM a number of bytes, or `fits` for as many as the
-   text has. Prints the status and the number of bytes needed.
+   text has; or CALL is held, which holds the normal form in a handle. Prints the status and the number of bytes needed.
    c_costs events SIZE reads the events of standard input in pieces of SIZE bytes, at most 4096. Prints the status and the number of
    events. */
 #include "bitstream.h"
@@ -21,6 +21,15 @@ static void read_input(void) {
     } while (input_len == size);
 }
 
+static uint32_t hold(const struct bs_limits *limits, const struct bs_left_out *whole, size_t *needed) {
+    struct bs_handle handle = {0};
+    struct bs_fault fault;
+    uint32_t status = bs_hold_normal(input, input_len, limits, whole, &handle, &fault);
+    bs_text(&handle, NULL, 0, needed, &fault);
+    bs_close(&handle);
+    return status;
+}
+
 static uint32_t ask(const char *call, uint8_t *room, size_t room_len, size_t *needed) {
     struct bs_limits limits;
     struct bs_left_out whole = BS_WHOLE;
@@ -30,6 +39,7 @@ static uint32_t ask(const char *call, uint8_t *room, size_t room_len, size_t *ne
     bs_usual_limits(&limits);
     if (!strcmp(call, "kept")) return bs_normal(input, input_len, &limits, &kept, room, room_len, needed, &fault);
     if (!strcmp(call, "normal")) return bs_normal(input, input_len, &limits, &whole, room, room_len, needed, &fault);
+    if (!strcmp(call, "held")) return hold(&limits, &whole, needed);
     if (!strcmp(call, "report")) return bs_report(input, input_len, &limits, room, room_len, needed, &fault);
     return bs_show(input, input_len, &limits, &whole, room, room_len, needed, &fault);
 }

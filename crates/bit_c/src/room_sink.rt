@@ -108,4 +108,14 @@ impl Sink for RoomSink {
             }
         }
     }
+
+    /// Makes room for a text that fits. Without memory for it the sink goes on as before.
+    fn expect(&mut self, bytes: u64) {
+        if bytes > self.room as u64 {
+            return;
+        }
+        if let Some(kept) = &mut self.kept {
+            let _ = kept.reserve_exact(bytes as usize);
+        }
+    }
 }

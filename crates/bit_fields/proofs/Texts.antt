@@ -1,5 +1,5 @@
 -- Bits that are held in memory, in bytes.
-use Rattle.std.proofs.Common.{◌≡◌, ℕ, zero, suc, ◌+◌, ◌*◌, ◌-◌, ◌/◌, ◌%◌, ◌^◌, ◌<◌, ◌≤◌, ◌==◌, Bool, true, false, inl, inr, List, [], ◌∷◌, ◌++◌, length, take, drop, get_or, replicate, Result, Ok, Err, refl, sym, ap, subst, ◌∙◌, arith, append_assoc, drop-cons, length-append, length-drop, length-set, add-one, bit_and}
+use Rattle.std.proofs.Common.{◌≡◌, ℕ, zero, suc, ◌+◌, ◌*◌, ◌-◌, ◌/◌, ◌%◌, ◌^◌, ◌<◌, ◌≤◌, ◌==◌, Bool, true, false, inl, inr, List, [], ◌∷◌, ◌++◌, length, take, drop, get_or, replicate, Result, Ok, Err, eqb-true, refl, sym, ap, subst, ◌∙◌, arith, append_assoc, drop-cons, length-append, length-drop, length-set, add-one, bit_and}
 use Rattle.std.proofs.Math.ListN.{set}
 use Rattle.std.proofs.Math.Seq.{drop-append_seam, take-append_seam, take-append-add, drop-append-add}
 use Rattle.std.proofs.lemmas.List.{append-nil, drop_all, take_at, take_all, drop_at, take-append-le, drop-append-le, take-append-drop, length-take-le, length-replicate, drop-set-lt, drop-drop}
@@ -495,6 +495,9 @@ pub first_chunk : (chunks : List (Vec ℕ)) (chunk : Vec ℕ) → 0 < length chu
 first_chunk [] chunk some is = absurd (omega (arith, some))
 first_chunk (first ∷ chunks) chunk some is = ap (λ (v : Vec ℕ). bits_of_bytes v.items ++ bits_of_chunks chunks) (sym is)
 
+pub none_left : (count : ℕ) → true ≡ (count == 0) → count ≡ 0
+none_left count e = eqb-true count 0 (sym e)
+
 pub some_left : (count : ℕ) → false ≡ (count == 0) → 0 < count
 some_left zero e = absurd cc
 some_left (suc count) e = omega arith
@@ -527,11 +530,3 @@ going_wrong whole old now next s t fault g lost = g.completes (Err fault) next (
 
 pub going_ends : (whole : List Bool) (old now : Writer) (rest : List Bool) → rest ≡ [] → Going whole old now rest → Wrote old whole now
 going_ends whole old now rest none g = g.completes (Ok tt) now (subst (λ (s : List Bool). Wrote now s now) (sym none) (wrote_nothing now g.live))
-
-pub chunks-next : (chunks : List (Vec ℕ)) (i : ℕ) (chunk : Vec ℕ) → i < length chunks → chunk ≡ get_or chunks i chunk → bits_of_chunks (drop i chunks) ≡ bits_of_bytes chunk.items ++ bits_of_chunks (drop (i + 1) chunks)
-chunks-next chunks i chunk lt is =
-    let there : drop i chunks ≡ chunk ∷ drop (i + 1) chunks = rw add-one (drop-cons chunks i chunk lt ∙ ap (λ (v : Vec ℕ). v ∷ drop (suc i) chunks) (sym is)) in
-    ap bits_of_chunks there
-
-pub chunks-end : (chunks : List (Vec ℕ)) (i : ℕ) → length chunks ≤ i → bits_of_chunks (drop i chunks) ≡ []
-chunks-end chunks i le = ap bits_of_chunks (drop_all i chunks le)

@@ -12,6 +12,7 @@ pub struct SinkFailed;
 
 /// Takes bytes in order, and counts its failures. A sink is exhausted once the count is `u64::MAX`.
 pub trait Sink {
+    ghost use Rattle.std.specs.Prelude.{◌≡◌};
     ghost use Rattle.bit_fields.specs.Devices.{Outgoing, Puts};
 
     // The bytes that it holds, if it is known, and the count.
@@ -22,6 +23,12 @@ pub trait Sink {
     /// After `SinkFailed` no byte was taken; it counts as a failure too. An exhausted sink returns it and changes nothing.
     fn put(&mut self, from: &[u8]) -> Result<usize, SinkFailed>
         ensures { Puts (outgoing self.old) (outgoing self.new) result from.now };
+
+    /// Tells the sink that so many bytes come, so that it may make room for all of them at once. It takes none.
+    #[inline]
+    fn expect(&mut self, _bytes: u64)
+        ensures { outgoing self.new ≡ outgoing self.old }
+    {}
 }
 
 /// A sink that is a vector of bytes. It fails if an allocation fails.
@@ -71,6 +78,11 @@ impl Sink for VecSink {
                 Err(SinkFailed)
             }
         }
+    }
+
+    /// Makes room for the bytes. Without memory for them it goes on as before.
+    fn expect(&mut self, bytes: u64) {
+        let _ = self.bytes.reserve_exact(bytes as usize);
     }
 }
 

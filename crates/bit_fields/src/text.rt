@@ -446,7 +446,7 @@ impl BitText {
             last,
             at,
         } = self.bits;
-        write_chunks(&full, writer)?;
+        write_chunks(full, writer)?;
         write_bits(&last, at, writer)
     }
 }
@@ -485,15 +485,17 @@ fn set_four(bytes: &mut Vec<u8>, at: usize, word: u32)
     bytes[at + 3] = four[3];
 }
 
-/// Writes the bytes of chunks.
-fn write_chunks<K: Sink>(chunks: &[Vec<u8>], writer: &mut BitWriter<K>) -> Result<(), Fault>
+/// Writes the bytes of chunks, one chunk after another. Each is freed once it is written, so that a sink in memory holds no byte twice.
+fn write_chunks<K: Sink>(chunks: Vec<Vec<u8>>, writer: &mut BitWriter<K>) -> Result<(), Fault>
     requires live { writer.old.live ≡ true }
     requires whole { writer.old.position % 8 ≡ 0 }
-    requires room { writer.old.position + length (bits_of_chunks chunks.now) < 2 ^ 63 }
-    ensures { Writes (bits_of_chunks chunks.now) writer.old result writer.new }
+    requires room { writer.old.position + length (bits_of_chunks chunks.items) < 2 ^ 63 }
+    ensures { Writes (bits_of_chunks chunks.items) writer.old result writer.new }
 {
-    for chunk in chunks {
-        write_bytes(chunk, writer)?;
+    let mut left = chunks;
+    while !left.is_empty() {
+        let chunk = left.remove(0);
+        write_bytes(&chunk, writer)?;
     }
     Ok(())
 }

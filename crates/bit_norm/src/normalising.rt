@@ -45,6 +45,8 @@ pub(crate) fn give<K: Sink>(magic: [u8; 4], text: BitText, sink: K) -> (Result<u
         → WritesForm tree limit (K.outgoing sink) result.0 (K.outgoing result.1) }
 {
     let bytes = 4 + text.len() / 8;
+    let mut sink = sink;
+    sink.expect(bytes);
     let mut writer = BitWriter::new(sink);
     match write_text(&mut writer, magic, text) {
         Ok(()) => (Ok(bytes), writer.into_sink()),

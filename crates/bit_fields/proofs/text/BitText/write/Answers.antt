@@ -11,17 +11,17 @@ use Rattle.bit_fields.proofs.text.BitText.write.Goals as goal
 pub write_chunks-requires-clause-room : goal.write_chunks-requires-clause-room
 write_chunks-requires-clause-room g c =
     let b = c.self.inside.bits in
-    omega (arith, c.requires.room, ap length c.self.view_is, length-append (bits_of_chunks b.full.items) (take b.at (bits_of_bytes b.last.items)), ap (λ (vs : List (Vec ℕ)). length (bits_of_chunks vs)) c.deref.ensures.value)
+    omega (arith, c.requires.room, ap length c.self.view_is, length-append (bits_of_chunks b.full.items) (take b.at (bits_of_bytes b.last.items)))
 
 pub write_bits-requires-clause-whole : goal.write_bits-requires-clause-whole
 write_bits-requires-clause-whole g c =
     let b = c.self.inside.bits in
-    omega (arith, c.requires.whole, c.in_ok-write_chunks.ensures.position, ap (λ (vs : List (Vec ℕ)). length (bits_of_chunks vs)) c.deref.ensures.value, chunks-length b.full.items c.self.invariant.0.are_full)
+    omega (arith, c.requires.whole, c.in_ok-write_chunks.ensures.position, chunks-length b.full.items c.self.invariant.0.are_full)
 
 pub write_bits-requires-clause-room : goal.write_bits-requires-clause-room
 write_bits-requires-clause-room g c =
     let b = c.self.inside.bits in
-    omega (arith, c.requires.room, c.in_ok-write_chunks.ensures.position, ap length c.self.view_is, length-append (bits_of_chunks b.full.items) (take b.at (bits_of_bytes b.last.items)), taken-length b.at b.last.items c.self.invariant.0.there, ap (λ (vs : List (Vec ℕ)). length (bits_of_chunks vs)) c.deref.ensures.value)
+    omega (arith, c.requires.room, c.in_ok-write_chunks.ensures.position, ap length c.self.view_is, length-append (bits_of_chunks b.full.items) (take b.at (bits_of_bytes b.last.items)), taken-length b.at b.last.items c.self.invariant.0.there)
 
 pub returns-in_err-write_chunks : goal.returns-in_err-write_chunks
 returns-in_err-write_chunks g c =
@@ -31,12 +31,12 @@ returns-in_err-write_chunks g c =
     rw (p.1, p.2)
     (subst (λ (s : List Bool). Writes s c.args.writer.now (Err fault) c.write_chunks.new.writer) c.self.view_is
     (not_written (bits_of_chunks b.full.items) (take b.at (bits_of_bytes b.last.items)) c.args.writer.now fault c.write_chunks.new.writer
-    (subst (λ (vs : List (Vec ℕ)). Writes (bits_of_chunks vs) c.args.writer.now (Err fault) c.write_chunks.new.writer) c.deref.ensures.value c.in_err-write_chunks.ensures)))
+    c.in_err-write_chunks.ensures))
 
 pub returns : goal.returns
 returns g c =
     let b = c.self.inside.bits in
     subst (λ (s : List Bool). Writes s c.args.writer.now c.write_bits.result c.write_bits.new.writer) c.self.view_is
     (wrote_then c.args.writer.now c.write_chunks.new.writer c.write_bits.new.writer (bits_of_chunks b.full.items) (take b.at (bits_of_bytes b.last.items)) c.write_bits.result
-    (subst (λ (vs : List (Vec ℕ)). Wrote c.args.writer.now (bits_of_chunks vs) c.write_chunks.new.writer) c.deref.ensures.value c.in_ok-write_chunks.ensures)
-    (subst (λ (xs : List ℕ). Writes (take b.at (bits_of_bytes xs)) c.write_chunks.new.writer c.write_bits.result c.write_bits.new.writer) c.deref-2.ensures.value c.write_bits.ensures))
+    c.in_ok-write_chunks.ensures
+    (subst (λ (xs : List ℕ). Writes (take b.at (bits_of_bytes xs)) c.write_chunks.new.writer c.write_bits.result c.write_bits.new.writer) c.deref.ensures.value c.write_bits.ensures))
