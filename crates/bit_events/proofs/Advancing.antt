@@ -34,7 +34,7 @@ use Rattle.bit_events.specs.MachineView.{machine_shown, definition_of, step_show
 use Rattle.bit_events.specs.Coming.{over as over_stage}
 use Rattle.bit_events.specs.Coming.{EndsStream, failed, Goes, GivesEvent, EndsEvents, BreaksOff, StopsEvents, event_before, end_at, end_by, told_of}
 use Rattle.bit_events.specs.Next.{LeadsOn, left_to_tell, FindsEvent, FindsEnd, FindsFault}
-use Rattle.bit_events.specs.Events.{stage_of, coming_of, IsEvents, Over, Shuts, Begun, DeclinesEvents}
+use Rattle.bit_events.specs.Events.{stage_of, coming_of, Over, Shuts, Begun, DeclinesEvents}
 use Rattle.bit_events.proofs.Beginnings.{outlook_begun, outlook_declined}
 
 -- ---- open blocks
@@ -337,12 +337,3 @@ kept_ends is_over now_over limits head m n vs ws found place there a b c e now_e
       told = λ tells. (finds.told tells ∙ ap (λ (p : ℕ). ([], accepted p)) (sym (is_there ∙ here)), refl);
       none = λ _ tells. rw like.incoming (finds.none tells);
     })
-
--- the invariant after the end of the input
-pub closed : {limits : Limits} (m n : Machine) (a b : Reader) (place : ℕ) → FindsEnd limits m a n b → IsEvents true limits n None place b
-closed m n a b place finds = record {
-  depth = omega (arith, ap (λ (x : Machine). vec_len x.frames) finds.same, finds.outside);
-  stands = λ live. absurd (dead b.live live finds.stops.failed);
-  aligned = λ live. absurd (dead b.live live finds.stops.failed);
-  closed = λ _. record { frames = ap (λ (x : Machine). vec_len x.frames) finds.same ∙ finds.outside; last = refl };
-}

@@ -1,5 +1,5 @@
 -- The open blocks, in the program's state.
-use Rattle.std.proofs.Common.{◌≡◌, ℕ, suc, ◌-◌, ◌≤◌, Bool, true, false, List, [], ◌∷◌, ◌++◌, length, refl, sym, ap, subst, ◌∙◌, arith}
+use Rattle.std.proofs.Common.{◌≡◌, ℕ, suc, ◌-◌, Bool, true, false, List, [], ◌∷◌, ◌++◌, length, refl, sym, ap, subst, ◌∙◌, arith}
 use Rattle.std.specs.Prelude.{if◌then◌else◌, reverse, ◌&&◌}
 use Rattle.std.specs.List.{list_all}
 use Rattle.std.proofs.lemmas.List.{reverse-append}
@@ -130,12 +130,3 @@ left_push s (e ∷ events) event ids b is = go (is_left s ids e) (left_push s ev
     go : (c : Bool) → all ≡ rest ++ last → (if c then e ∷ all else all) ≡ (if c then e ∷ rest else rest) ++ last
     go true same = ap (λ (es : List Event). e ∷ es) same
     go false same = same
-
--- no more blocks are kept than are open; and fewer, if one is not kept
-pub counted_few : (s : Setting) (ids : List ℕ) → kept_count s ids ≤ length ids
-counted_few s [] = omega arith
-counted_few s (id ∷ ids) = go (list_all (keeps s) (id ∷ ids)) (counted_few s ids)
-  where
-    go : (b : Bool) → kept_count s ids ≤ length ids → (if b then suc (kept_count s ids) else kept_count s ids) ≤ suc (length ids)
-    go true few = omega (arith, few)
-    go false few = omega (arith, few)

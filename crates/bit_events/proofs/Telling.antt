@@ -18,10 +18,6 @@ told rule a result b t = t.takes
 pub why : {A : Type 0} (rule : Grammar A) (a : Reader) (fault : Fault) (b : Reader) → Tells rule a (Err fault) b → Why rule a fault b
 why rule a fault b t = t.takes
 
--- the last call
-pub whole : {A : Type 0} {rule : Grammar A} {a : Reader} {value : A} {b : Reader} → Took rule a value b → Tells rule a (Ok value) b
-whole t = record { takes = t }
-
 pub answers : {A : Type 0} {rule : Grammar A} {a : Reader} {result : Result A Fault} {b : Reader} → Takes rule a result b → Tells rule a result b
 answers t = record { takes = t }
 

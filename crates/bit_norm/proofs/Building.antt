@@ -400,14 +400,6 @@ defines_more first old done mark was = go old.long refl (list_all (keeps old.sta
         (formed old.limits.bytes (left_events first done ++ defines mark ∷ []) old.text old.holes.items old.long short (builds_definition (left_events first done) old.text old.holes.items (was.form.builds short) mark))
     go false short false is = event_left_out first old old done (defines mark) was short is refl refl was.form
 
--- no event yet
-pub starts : (b : FormBuilder) → b.text ≡ [] → b.holes.items ≡ [] → b.standing.ids ≡ [] → b.long ≡ false → IsFormOf b [] b
-starts b text holes none short = record {
-  limits = refl;
-  stands = λ _. ap (λ (ids : List ℕ). record { setting = b.standing.setting; ids = ids }) none;
-  form = formed b.limits.bytes [] b.text b.holes.items b.long short (record { outer = []; inner = []; is = text; places = holes; words = tt; top = λ _. refl; whole = λ following. refl; depth = refl });
-}
-
 -- all blocks are closed, and nothing follows
 pub whole_text : (first last : FormBuilder) (events : List Event) → IsFormOf first events last → left_open events ≡ 0 → last.long ≡ false → (last.text ≡ normal (told_at_level (left_events first events) 0) 32) × (length last.text % 32 ≡ 0)
 whole_text first last events was closed_all short =

@@ -37,10 +37,6 @@ same_rest [] (e ∷ b) x y many same = absurd (omega (arith, many))
 same_rest (e ∷ a) [] x y many same = absurd (omega (arith, many))
 same_rest (e ∷ a) (f ∷ b) x y many same = same_rest a b x y (omega (arith, many)) cc
 
--- the first input has no more events than those in front
-none_behind : (done x : List Event) → done ++ x ≡ done → x ≡ []
-none_behind done x same = same_rest done done x [] refl (same ∙ sym (append-nil done))
-
 -- ---- another first input
 
 -- one that tells the same entries

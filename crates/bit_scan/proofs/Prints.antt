@@ -28,9 +28,6 @@ pub piece_settled : (text : List ℕ) (old : Printing) (held : List ℕ) (added 
 piece_settled text old held (Ok v) r new is p wrong = settled text old held r new is p
 piece_settled text old held (Err e) r new is p wrong = rw (wrong.0, wrong.1) (record { front = []; rest = old.held ++ text; split = refl; bytes = Appends-nil old.outgoing.bytes }, refl)
 
-pub none_printed : (text : List ℕ) (old new : Printing) → new.outgoing ≡ old.outgoing → Prints text old (Err Memory) new
-none_printed text old new same = (record { front = []; rest = old.held ++ text; split = refl; bytes = subst (λ (o : Outgoing). Appends old.outgoing.bytes o.bytes []) (sym same) (Appends-nil old.outgoing.bytes) }, ap (λ (o : Outgoing). o.failures) same)
-
 -- a line was printed whole
 pub whole_printed : (line : List ℕ) (old new : Printing) (is_whole : Bool) → is_whole ≡ true → PrintsWhole line old (Ok is_whole) new → Printed line old new
 whole_printed line old new true is p = p

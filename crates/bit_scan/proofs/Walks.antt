@@ -1,15 +1,12 @@
 -- Walks along the links of rows.
 use Rattle.std.proofs.Common.{◌≡◌, ℕ, zero, suc, ◌+◌, ◌-◌, ◌*◌, ◌/◌, ◌%◌, ◌<◌, List, [], ◌∷◌, Some, ap, sym, subst, arith, slice_get, slice_index}
-use Rattle.bit_scan.specs.Indexed.{IsAbsent, Leads, Reaches, IsReached, IsIndexed, KeepsLinks, IsFree}
+use Rattle.bit_scan.specs.Indexed.{IsAbsent, Leads, Reaches, IsReached, KeepsLinks, IsFree}
 
 -- A walk by the bits of a key is at a slot. The key's row, if there is one, is reached from there; and what is reached from there
 -- is also reached from the beginning, even after more links lead to rows.
 pub record IsWalked (keys links : List ℕ) (k slot rest : ℕ) : Type 0 where
   pub buffered : (place : ℕ) → slice_get keys place ≡ Some k → IsReached links slot rest place
   pub behind : (new : List ℕ) (place : ℕ) → KeepsLinks links new → IsReached new slot rest place → IsReached new 0 k place
-
-pub begun : (keys links : List ℕ) (k : ℕ) → IsIndexed keys links → IsWalked keys links k 0 k
-begun keys links k ix = record { buffered = ix.reached k; behind = λ new place keeps reached. reached }
 
 leads_first : (n : ℕ) (links : List ℕ) (slot rest place : ℕ) → Reaches n links slot rest place → Leads links slot
 leads_first zero links slot rest place h = h.0

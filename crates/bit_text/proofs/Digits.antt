@@ -73,9 +73,6 @@ pub record Reading (text read : List ℕ) (from : ℕ) : Type 0 where
   pub rest : from ≤ length text → numbers_after [] (words text) ≡ numbers_after read (words (drop from text))
   pub done : length text < from → numbers_after [] (words text) ≡ Ok read
 
-pub none_read : (text : List ℕ) → Reading text [] 0
-none_read text = record { within = omega arith; rest = λ h. refl; done = λ h. absurd (omega (arith, h)) }
-
 added : (text read : List ℕ) (n from to : ℕ) (others : List (List ℕ)) → from < to → IsNumber text from to n → numbers_after read (take (to - from) (drop from text) ∷ others) ≡ numbers_after (read ++ n ∷ []) others
 added text read n from to others some is =
     let few : to - from ≤ length (drop from text) = simp length-drop (omega (arith, is.high)) in

@@ -7,7 +7,7 @@ use Rattle.std.specs.List.{AllByRecursion, list_all}
 use Rattle.std.proofs.lemmas.Bool.Decides.{nat_tests}
 use Rattle.bit_grammar.specs.Texts.{line, hex_text, magic_bytes, magic_text, values_text}
 use Rattle.bit_text.specs.Numbers.{numbers_after, parts_after}
-use Rattle.bit_text.specs.Lines.{spaces, content, is_low_digit, byte_of, magic_of}
+use Rattle.bit_text.specs.Lines.{spaces, content, is_low_digit, byte_of}
 use Rattle.bit_text.proofs.Decimals.{Lacks, lacks_append, decimal_lacks, numbers_read, parts_over}
 use Rattle.bit_text.proofs.Spelling.{same_byte}
 
@@ -25,10 +25,6 @@ byte_back b h =
     let low : b % 16 < 16 = omega arith in
     let sum : b / 16 * 16 + b % 16 ≡ b = omega arith in
     rw (glyph_low (b / 16) high, glyph_low (b % 16) low, glyph_value (b / 16) high, glyph_value (b % 16) low) (ap Some sum)
-
-pub magic_read : (magic : ℕ) → magic_of (magic_text magic) ≡ Some (magic_bytes magic)
-magic_read magic =
-    rw (byte_back (magic % 0x100) (omega arith), byte_back (magic / 0x100 % 0x100) (omega arith), byte_back (magic / 0x10000 % 0x100) (omega arith), byte_back (magic / 0x1000000 % 0x100) (omega arith)) refl
 
 -- ---- spaces
 

@@ -62,9 +62,6 @@ all_kept around (a_record code values rest) = ap (a_record code values) (all_kep
 pub tree_kept : (tree : Tree) → under keep tree ≡ tree
 tree_kept tree = ap (λ (f : Forest). record { magic = tree.magic; blocks = f }) (all_kept 0 tree.blocks)
 
-pub fit_kept : (tree : Tree) → Fit (under keep tree) → Fit tree
-fit_kept tree = subst Fit (tree_kept tree)
-
 pub kept_fit : (tree : Tree) → Fit tree → Fit (under keep tree)
 kept_fit tree = subst Fit (sym (tree_kept tree))
 

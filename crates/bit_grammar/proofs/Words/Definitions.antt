@@ -1,5 +1,5 @@
 -- A definition that is spelled has operands with lawful values, and in a lawful order if that is judged there.
-use Rattle.std.proofs.Common.{◌≡◌, ℕ, zero, suc, ◌+◌, ◌<◌, ◌≢◌, Bool, true, false, ltb, List, [], ◌∷◌, length, refl, sym, ap, subst, ◌∙◌, arith}
+use Rattle.std.proofs.Common.{◌≡◌, ℕ, zero, suc, ◌+◌, ◌≢◌, Bool, true, false, ltb, List, [], ◌∷◌, length, refl, sym, ap, subst, ◌∙◌, arith}
 use Rattle.std.specs.List.{AllByRecursion}
 use Rattle.std.proofs.lemmas.Bool.{ltb-true, leb-true, eqb-true, eqb-false, and_parts, not-true}
 use Rattle.bit_grammar.specs.declared.op.Op.{Op}
@@ -138,9 +138,6 @@ is_in_order [] h = record { first = none_first; array = array_at first [] h; ele
 is_in_order (op ∷ others) h = record { first = first_is op others h; array = array_at first (op ∷ others) h; element = element_at first (op ∷ others) h; blob = blob_at first (op ∷ others) h }
 
 -- ---- definitions
-
-pub is_lawful : (ops : List Op) → 0 < length ops → PassFrom AtDefinition first ops → Lawful ops
-is_lawful ops some h = record { some = some; order = is_in_order ops (order_passed first ops h); values = values_pass AtDefinition first ops h }
 
 -- operands that pass are in order if that is judged
 pub passed : (shapes : Shapes) (ops : List Op) → PassFrom shapes first ops → PassesShape shapes ops
