@@ -53,7 +53,7 @@ vbr_front k n word p two few last =
 
 -- ---- the parts of an operand
 
-judged : (holds : Bool) (fault : grammar.Fault) (b : BufferedBits) → holds ≡ true → Took (test holds fault) (reader_at b) tt (reader_at b)
+pub judged : (holds : Bool) (fault : grammar.Fault) (b : BufferedBits) → holds ≡ true → Took (test holds fault) (reader_at b) tt (reader_at b)
 judged holds fault b is = same_reading (gives tt) (test holds fault) (reader_at b) (Ok tt) (reader_at b) (λ q r. rw is refl) (took_nothing tt (reader_at b) refl)
 
 literal_kind : (word p : ℕ) → word % 2 ≡ 1 → Took kind (reader_at (word_at 9 word p)) literal (reader_at (word_at 8 (word / 2) (p + 1)))
@@ -106,13 +106,13 @@ width_read word p small =
     let w = width_there word small in
     subst (λ (v : ℕ). Reads (vbr 5) (word_at 5 (word / 2 / 8) p) v (word_at 0 (word / 2 / 8 / 32) (p + 5))) w.0 (vbr_front 5 0 (word / 2 / 8) p (omega arith) (omega arith) (omega (arith, w.0, w.1)))
 
-any_fixed : (shapes : Shapes) (place : Place) (after : ℕ) → passes shapes (fits place after fixed_width) ≡ true
+pub any_fixed : (shapes : Shapes) (place : Place) (after : ℕ) → passes shapes (fits place after fixed_width) ≡ true
 any_fixed AtDefinition first after = refl
 any_fixed AtDefinition element after = refl
 any_fixed AtDefinition later after = refl
 any_fixed AtUse place after = refl
 
-any_vbr : (shapes : Shapes) (place : Place) (after : ℕ) → passes shapes (fits place after vbr_width) ≡ true
+pub any_vbr : (shapes : Shapes) (place : Place) (after : ℕ) → passes shapes (fits place after vbr_width) ≡ true
 any_vbr AtDefinition first after = refl
 any_vbr AtDefinition element after = refl
 any_vbr AtDefinition later after = refl

@@ -1,17 +1,15 @@
+ghost use Rattle.bit_abbrev.specs.Operands.{HasTail};
+ghost use Rattle.bit_abbrev.specs.Layouts.{HasLayout};
+ghost use Rattle.bit_abbrev.specs.Plans.{IsPlan};
 //! Abbreviations: lists of operands.
 
 ghost use Rattle.std.specs.Prelude.{◌≡◌, ◌≤◌, ◌↔◌, true, length, IsOk, IfOk, IfErr, IfSome, IfNone};
 ghost use Rattle.bit_grammar.specs.Definition.{fits, place_after, kind_of, has_shape};
 ghost use Rattle.bit_grammar.specs.declared.shapes.Shapes.TheVariants.{AtDefinition};
 ghost use Rattle.bit_grammar.specs.FormatDefinition.{Definable, Lawful};
-ghost use Rattle.bit_abbrev.specs.Operands.{HasTail};
-ghost use Rattle.bit_abbrev.specs.Layouts.{HasLayout};
-ghost use Rattle.bit_abbrev.specs.Plans.{IsPlan};
 ghost use Rattle.bit_abbrev.specs.Breaks.{IsFirstBreak, LiteralFits, break_of};
 
-use crate::layout::{Layout, layout_of};
-use crate::plan::Plan;
-use crate::tail::{Tail, tail_of};
+use crate::held_op::HeldOps;
 use crate::widths::{is_fixed_width, is_vbr_width};
 use bit_grammar::{Kind, Op, Place, Reason, Shapes};
 use smallvec::SmallVec;
@@ -38,9 +36,6 @@ pub struct BadAbbrev {
 pub struct Abbrev {
     ops: Ops,
     usable: bool,
-    tail: Tail,
-    layout: Layout,
-    plan: Plan,
 }
 
 impl fmt::Debug for Abbrev {
@@ -48,7 +43,6 @@ impl fmt::Debug for Abbrev {
         f.debug_struct("Abbrev")
             .field("ops", &self.ops)
             .field("usable", &self.usable)
-            .field("tail", &self.tail)
             .finish()
     }
 }
@@ -58,19 +52,13 @@ impl Model for Abbrev {
     ghost use Rattle.bit_grammar.specs.declared.op.Op.{Op};
     ghost use Rattle.bit_grammar.specs.Definition.{has_shape};
     ghost use Rattle.bit_grammar.specs.FormatDefinition.{Definable};
-    ghost use Rattle.bit_abbrev.specs.Operands.{HasTail};
-    ghost use Rattle.bit_abbrev.specs.Layouts.{HasLayout};
-    ghost use Rattle.bit_abbrev.specs.Plans.{IsPlan};
 
     ghost Value = { List Op };
 
     ghost view = { λ definition. definition.ops.items };
 
     ghost invariant = { λ definition. Definable definition.ops.items
-        × (definition.usable ≡ has_shape definition.ops.items)
-        × (definition.usable ≡ true → HasTail definition.ops.items definition.tail)
-        × HasLayout definition.ops.items definition.layout
-        × IsPlan definition.ops.items definition.plan };
+        × (definition.usable ≡ has_shape definition.ops.items) };
 }
 
 /// Whether an operand of this kind may be at a place, with `after` operands after it.
@@ -165,60 +153,27 @@ impl Abbrev {
         ensures first { IfErr result (λ bad. IsFirstBreak ops.items bad.at bad.reason) }
     {
         match first_break(ops.as_slice()) {
-            None => {
-                let tail = tail_of(ops.as_slice());
-                let layout = layout_of(ops.as_slice(), true, tail);
-                Ok(Abbrev {
-                    ops,
-                    usable: true,
-                    tail,
-                    layout,
-                    plan: Plan::odd(),
-                })
-            }
+            None => Ok(Abbrev { ops, usable: true }),
             Some((at, reason)) => Err(BadAbbrev { ops, at, reason }),
         }
     }
 
-    /// The abbreviation with these operands, of which it is known whether they are in a lawful order.
-    #[inline(always)]
-    fn of_shape(ops: Ops, usable: bool) -> Abbrev
-        requires definable { Definable ops.items }
-        requires usable { usable ≡ has_shape ops.items }
-        ensures { result ≡ ops.items }
-    {
-        let tail = tail_of(ops.as_slice());
-        let layout = layout_of(ops.as_slice(), usable, tail);
-        Abbrev {
-            ops,
-            usable,
-            tail,
-            layout,
-            plan: Plan::odd(),
+    /// The abbreviation with operands that are held.
+    pub fn of_held(alloc: Global, held: HeldOps<'_>) -> Result<Abbrev, AllocError> {
+        let mut ops = Ops::new(alloc);
+        ops.reserve_exact(held.places.len())?;
+        let mut left = held;
+        while let Some((op, rest)) = left.split_first() {
+            ops.push(op)?;
+            left = rest;
         }
+        Ok(Abbrev::of_read(ops))
     }
 
-    /// The abbreviation with these operands.
-    pub(crate) fn from_definable(ops: Ops) -> Abbrev
-        requires { Definable ops.items }
-        ensures { result ≡ ops.items }
-    {
+    /// The abbreviation with operands that were read.
+    pub(crate) fn of_read(ops: Ops) -> Abbrev {
         let usable = has_shape(ops.as_slice());
-        Abbrev::of_shape(ops, usable)
-    }
-
-    /// The abbreviation with operands that were read, whose order was judged where `shapes` says.
-    #[inline(always)]
-    pub(crate) fn from_read(ops: Ops, shapes: Shapes) -> Abbrev
-        requires definable { Definable ops.items }
-        requires order { shapes ≡ AtDefinition → has_shape ops.items ≡ true }
-        ensures { result ≡ ops.items }
-    {
-        let usable = match shapes {
-            Shapes::AtDefinition => true,
-            Shapes::AtUse => has_shape(ops.as_slice()),
-        };
-        Abbrev::of_shape(ops, usable)
+        Abbrev { ops, usable }
     }
 
     /// The operands.
@@ -236,55 +191,6 @@ impl Abbrev {
         self.usable
     }
 
-    /// The operands, in a lawful order.
-    pub fn lawful_ops(&self) -> &[Op]
-        requires { has_shape self.now ≡ true }
-        ensures items { result.now ≡ self.now }
-        ensures lawful { Lawful self.now }
-    {
-        self.ops.as_slice()
-    }
-
-    /// How its fields are laid out.
-    #[inline(always)]
-    pub fn layout(&self) -> Layout
-        ensures { HasLayout self.now result }
-    {
-        self.layout
-    }
-
-    /// The same, with a plan: its records are passed over sooner.
-    #[inline(always)]
-    pub fn planned(self) -> Abbrev
-        ensures { result ≡ self }
-    {
-        let plan = Plan::of(&self);
-        Abbrev {
-            ops: self.ops,
-            usable: self.usable,
-            tail: self.tail,
-            layout: self.layout,
-            plan,
-        }
-    }
-
-    /// How its records are passed over.
-    #[inline(always)]
-    pub fn plan(&self) -> &Plan
-        ensures { IsPlan self.now result.now }
-    {
-        &self.plan
-    }
-
-    /// What follows the operands that stand for one value each.
-    #[inline(always)]
-    pub(crate) fn tail(&self) -> Tail
-        requires { has_shape self.now ≡ true }
-        ensures { HasTail self.now result }
-    {
-        self.tail
-    }
-
     /// A copy, with the same operands.
     pub fn copy(&self, alloc: Global) -> Result<Abbrev, AllocError>
         ensures ok { IfOk result (λ copy. copy ≡ self.now) }
@@ -294,9 +200,6 @@ impl Abbrev {
         Ok(Abbrev {
             ops,
             usable: self.usable,
-            tail: self.tail,
-            layout: self.layout,
-            plan: self.plan,
         })
     }
 }

@@ -1,5 +1,3 @@
-//! Reading definitions.
-
 ghost use Rattle.std.specs.Prelude.{◌≡◌, ◌-◌, ◌<◌, [], IfOk, OnOk, OnErr, true};
 ghost use Rattle.bit_grammar.specs.Definition.{kind, passes, valued, operand, operands, definition};
 ghost use Rattle.bit_grammar.specs.declared.shapes.Shapes.{Shapes};
@@ -7,20 +5,56 @@ ghost use Rattle.bit_grammar.specs.declared.op.Place.TheVariants.{First};
 ghost use Rattle.bit_grammar.specs.FormatDefinition.{HasLawfulValue, Definable};
 ghost use Rattle.bit_fields.specs.Reader.{Takes, IsOnly, told_by};
 ghost use Rattle.bit_abbrev.specs.Defining.{AddsOps, TakesCount};
+ghost use Rattle.std.specs.Prelude.{◌≡◌, ◌<◌, true, length, OnErr};
+ghost use Rattle.bit_grammar.specs.Definition.{definition, has_shape};
+ghost use Rattle.bit_abbrev.specs.HeldPlaces.{ops_of, Extends};
+ghost use Rattle.bit_abbrev.specs.PlaceLayouts.{HasLayout};
+ghost use Rattle.bit_abbrev.specs.Defining.{AddsRead};
+ghost use Rattle.bit_abbrev.specs.DefinitionLists.{AreHeld};
+ghost use Rattle.bit_abbrev.specs.BlockMarks.{IsSound};
+ghost use Rattle.bit_abbrev.specs.Growing.{Alike, AddsMade, AddsOwn, AddsTo};
+ghost use Rattle.bit_abbrev.specs.CompactReading.{AddsDefinition, ReadsOne, TriesOne};
+//! Reading definitions by a reader, which judges them and asks its source.
 
-use crate::abbrev::{Abbrev, Ops, fits, place_after};
-use crate::op_row::{OpRow, ROW};
+use crate::abbrev::{Abbrev, Ops, fits, kind_of, place_after};
+use crate::definitions::Definitions;
+use crate::held_op::{HeldOp, HeldOps, push};
+use crate::layout::{Layout, has_odd, layout_of};
+use crate::list::DefinitionList;
 use crate::op_taker::OpTaker;
-use crate::short_op::short_op;
 use crate::widths::{is_fixed_width, is_vbr_width};
 use bit_fields::{BitReader, Fault, Source};
 use bit_grammar::{Kind, Op, Place, Reason, Shapes};
-use smallvec::SmallVec;
 use std::alloc::{AllocError, Global};
 
-/// Reads the flag of an operand, and its encoding if it has one. For `U` see `read_record`.
+impl OpTaker for Ops {
+    ghost use Rattle.std.specs.Prelude.{◌≡◌, ◌++◌};
+
+    ghost added = { λ first ops last. last.items ≡ first.items ++ ops };
+
+    #[inline(always)]
+    fn take(&mut self, op: Op) -> Result<(), AllocError> {
+        match self.push(op) {
+            Ok(()) => Ok(()),
+            Err(_) => Err(AllocError),
+        }
+    }
+}
+
+impl OpTaker for Vec<HeldOp> {
+    ghost use Rattle.bit_abbrev.specs.HeldPlaces.{Holds};
+
+    ghost added = { λ first ops last. Holds first.items last.items ops };
+
+    #[inline(always)]
+    fn take(&mut self, op: Op) -> Result<(), AllocError> {
+        push(self, op)
+    }
+}
+
+/// Reads the flag of an operand, and its encoding if it has one.
 #[tactic(auto, unfolding(bit_grammar::specs::Definition::kind))]
-fn read_kind<U, S: Source>(reader: &mut BitReader<S>) -> Result<Kind, Fault>
+fn read_kind<S: Source>(reader: &mut BitReader<S>) -> Result<Kind, Fault>
     ensures { Takes kind reader.old result reader.new }
 {
     if reader.fixed(1)? == 1 {
@@ -42,7 +76,7 @@ fn read_kind<U, S: Source>(reader: &mut BitReader<S>) -> Result<Kind, Fault>
 
 /// Reads the value of an operand of this kind.
 #[tactic(auto, unfolding(bit_grammar::specs::Definition::valued))]
-fn read_value<U, S: Source>(reader: &mut BitReader<S>, kind: Kind) -> Result<Op, Fault>
+fn read_value<S: Source>(reader: &mut BitReader<S>, kind: Kind) -> Result<Op, Fault>
     requires { reader.old.live ≡ true }
     ensures takes { Takes (valued kind) reader.old result reader.new }
     ensures lawful { IfOk result HasLawfulValue }
@@ -77,11 +111,9 @@ pub(crate) fn passes(shapes: Shapes, fits: bool) -> bool
     }
 }
 
-/// Reads an operand at a place, with `after` operands after it, field by field.
+/// Reads an operand at a place, with `after` operands after it.
 #[tactic(auto, unfolding(bit_grammar::specs::Definition::operand))]
-#[cold]
-#[inline(never)]
-fn read_fields<U, S: Source>(
+fn read_operand<S: Source>(
     reader: &mut BitReader<S>,
     shapes: Shapes,
     place: Place,
@@ -91,57 +123,14 @@ fn read_fields<U, S: Source>(
     ensures lawful { IfOk result HasLawfulValue }
 {
     let first = reader.position();
-    let kind = read_kind::<U, S>(reader)?;
+    let kind = read_kind(reader)?;
     let passed = passes(shapes, fits(place, after, kind));
     reader.judge(passed, Reason::AbbrevShape, first)?;
-    read_value::<U, S>(reader, kind)
-}
-
-/// Reads an operand at a place, with `after` operands after it. One of few bits that the reader holds is read at once: its fields
-/// would ask the source for nothing either.
-#[inline(always)]
-fn read_operand<U, S: Source>(
-    reader: &mut BitReader<S>,
-    shapes: Shapes,
-    place: Place,
-    after: u64,
-) -> Result<Op, Fault>
-    ensures takes { Takes (operand shapes place after) reader.old result reader.new }
-    ensures lawful { IfOk result HasLawfulValue }
-{
-    if let Some(bits) = reader.peek(9) {
-        if let Some(short) = short_op(bits, shapes, place, after) {
-            reader.fixed(short.bits)?;
-            return Ok(short.op);
-        }
-    }
-    read_fields::<U, S>(reader, shapes, place, after)
-}
-
-/// Many operands while they are read.
-type Gathered = SmallVec<Op, 8>;
-
-/// How many operands are copied at most: a list that is made smaller leaves gaps in memory, and a copy of a long one costs as much
-/// again.
-const COPIED: usize = 4096;
-
-impl OpTaker for Gathered {
-    ghost use Rattle.std.specs.Prelude.{◌≡◌, ◌++◌};
-
-    ghost added = { λ first ops last. last.items ≡ first.items ++ ops };
-
-    #[inline(always)]
-    fn take(&mut self, op: Op) -> Result<(), AllocError> {
-        match self.push(op) {
-            Ok(()) => Ok(()),
-            Err(_) => Err(AllocError),
-        }
-    }
+    read_value(reader, kind)
 }
 
 /// Reads `count` operands into a list. If it fails, some may have been added.
-#[inline(always)]
-pub(crate) fn read_operands<S: Source, T: OpTaker>(
+fn read_operands<S: Source, T: OpTaker>(
     reader: &mut BitReader<S>,
     shapes: Shapes,
     count: u64,
@@ -155,7 +144,7 @@ pub(crate) fn read_operands<S: Source, T: OpTaker>(
 {
     let mut place = Place::First;
     for i in 0..count {
-        let op = read_operand::<T, S>(reader, shapes, place, count - 1 - i)?;
+        let op = read_operand(reader, shapes, place, count - 1 - i)?;
         place = place_after(op);
         match list.take(op) {
             Ok(()) => {}
@@ -165,20 +154,8 @@ pub(crate) fn read_operands<S: Source, T: OpTaker>(
     Ok(())
 }
 
-/// The same operands, without room for more.
-#[cold]
-#[inline(never)]
-fn shrunk(gathered: Gathered) -> Result<Ops, AllocError>
-    ensures { IfOk result (λ ops. ops.items ≡ gathered.items) }
-{
-    let mut ops = gathered.into_vec()?;
-    ops.shrink_to_fit();
-    Ok(Ops::from_vec(ops))
-}
-
 /// Reads the number of operands of a definition, after its abbreviation id.
-#[inline(always)]
-pub fn read_count<S: Source>(reader: &mut BitReader<S>) -> Result<u64, Fault>
+fn read_count<S: Source>(reader: &mut BitReader<S>) -> Result<u64, Fault>
     ensures takes { (shapes : Shapes) → TakesCount shapes reader.old result reader.new }
     ensures live { OnOk result (reader.new.live ≡ true) }
     ensures some { IfOk result (λ count. 0 < count) }
@@ -189,98 +166,19 @@ pub fn read_count<S: Source>(reader: &mut BitReader<S>) -> Result<u64, Fault>
     Ok(count)
 }
 
-/// Reads `count` operands.
-#[inline(always)]
-fn read_gathered<S: Source>(
+/// Reads the number of operands, and the operands.
+fn read_ops<S: Source>(
     alloc: Global,
     reader: &mut BitReader<S>,
     shapes: Shapes,
-    count: u64,
-) -> Result<Gathered, Fault>
-    requires some { 0 < count }
-    requires live { reader.old.live ≡ true }
-    ensures takes { Takes (operands shapes count First) reader.old
-        (told_by (λ ops. ops.items) result) reader.new }
+) -> Result<Ops, Fault>
+    ensures takes { Takes (definition shapes) reader.old (told_by (λ ops. ops.items) result) reader.new }
     ensures definable { IfOk result (λ ops. Definable ops.items) }
 {
-    let mut gathered = SmallVec::new(alloc);
-    read_operands(reader, shapes, count, &mut gathered)?;
-    Ok(gathered)
-}
-
-/// Reads the operands of a definition, after their number.
-#[cold]
-#[inline(never)]
-fn read_many<S: Source>(
-    alloc: Global,
-    reader: &mut BitReader<S>,
-    shapes: Shapes,
-    count: u64,
-) -> Result<Abbrev, Fault>
-    requires some { 0 < count }
-    requires live { reader.old.live ≡ true }
-    ensures { Takes (operands shapes count First) reader.old result reader.new }
-{
-    let gathered = read_gathered(alloc, reader, shapes, count)?;
-    let ops = if gathered.len() <= COPIED {
-        Ops::from_slice(alloc, gathered.as_slice())
-    } else {
-        shrunk(gathered)
-    };
-    match ops {
-        Ok(ops) => Ok(Abbrev::from_read(ops, shapes)),
-        Err(_) => Err(reader.fail(Fault::Memory)),
-    }
-}
-
-/// Reads the operands of a definition, of which a row has room for all.
-#[inline(always)]
-fn read_row<S: Source>(
-    alloc: Global,
-    reader: &mut BitReader<S>,
-    shapes: Shapes,
-    count: u64,
-) -> Result<Abbrev, Fault>
-    requires some { 0 < count }
-    requires live { reader.old.live ≡ true }
-    ensures { Takes (operands shapes count First) reader.old result reader.new }
-{
-    let mut row = OpRow::new();
-    read_operands(reader, shapes, count, &mut row)?;
-    match Ops::from_slice(alloc, row.as_slice()) {
-        Ok(ops) => Ok(Abbrev::from_read(ops, shapes)),
-        Err(_) => Err(reader.fail(Fault::Memory)),
-    }
-}
-
-/// Reads the operands of a definition, after their number.
-#[inline(always)]
-pub fn read_ops<S: Source>(
-    alloc: Global,
-    reader: &mut BitReader<S>,
-    shapes: Shapes,
-    count: u64,
-) -> Result<Abbrev, Fault>
-    requires some { 0 < count }
-    requires live { reader.old.live ≡ true }
-    ensures { Takes (operands shapes count First) reader.old result reader.new }
-{
-    if count > ROW as u64 {
-        return read_many(alloc, reader, shapes, count);
-    }
-    read_row(alloc, reader, shapes, count)
-}
-
-/// Reads the number of operands, and the operands.
-fn read_definition<S: Source>(
-    alloc: Global,
-    reader: &mut BitReader<S>,
-    shapes: Shapes,
-) -> Result<Abbrev, Fault>
-    ensures { Takes (definition shapes) reader.old result reader.new }
-{
     let count = read_count(reader)?;
-    read_ops(alloc, reader, shapes, count)
+    let mut ops = Ops::new(alloc);
+    read_operands(reader, shapes, count, &mut ops)?;
+    Ok(ops)
 }
 
 /// Reads a definition after its abbreviation id. If shapes are judged at their use, operands in any order are read.
@@ -296,8 +194,164 @@ pub fn read_define<S: Source>(
     ensures stays { OnErr result (reader.new.position ≡ reader.old.position) }
 {
     let first = reader.position();
-    match read_definition(alloc, reader, shapes) {
-        Ok(abbrev) => Ok(abbrev),
+    match read_ops(alloc, reader, shapes) {
+        Ok(ops) => Ok(Abbrev::of_read(ops)),
         Err(fault) => Err(reader.fail_at(fault, first)),
+    }
+}
+
+/// How many operands there are.
+fn count_of(ops: HeldOps<'_>) -> usize
+    ensures { result ≡ length (ops_of ops.entry.places.now) }
+{
+    let mut left = ops;
+    let mut count = 0;
+    while let Some((_, rest)) = left.split_first() {
+        count += 1;
+        left = rest;
+    }
+    count
+}
+
+/// Whether operands are in a lawful order.
+fn are_lawful(ops: HeldOps<'_>) -> bool
+    ensures { result ≡ has_shape (ops_of ops.entry.places.now) }
+{
+    let mut left = ops;
+    let mut place = Place::First;
+    let mut after = count_of(ops) as u64;
+    while let Some((op, rest)) = left.split_first() {
+        after -= 1;
+        if !fits(place, after, kind_of(op)) {
+            return false;
+        }
+        place = place_after(op);
+        left = rest;
+    }
+    true
+}
+
+/// How the fields of a record of these operands are laid out, which may be in no lawful order.
+fn judged_layout(places: &[HeldOp]) -> Layout
+    requires { 0 < length places.now }
+    ensures { HasLayout places.now result }
+{
+    if !are_lawful(HeldOps { places }) {
+        return Layout::Unlawful;
+    }
+    layout_of(places, has_odd(places))
+}
+
+/// Reads a definition after its abbreviation id: its operands come behind those of a list. If it fails, some may have been added.
+#[cold]
+#[inline(never)]
+pub(crate) fn read_definition<S: Source>(
+    reader: &mut BitReader<S>,
+    shapes: Shapes,
+    ops: &mut Vec<HeldOp>,
+) -> Result<Layout, Fault>
+    requires { reader.old.live ≡ true }
+    ensures reads { AddsDefinition shapes reader.old result reader.new ops.old.items ops.new.items }
+    ensures more { Extends ops.old.items ops.new.items }
+{
+    let start = ops.len();
+    let count = read_count(reader)?;
+    read_operands(reader, shapes, count, ops)?;
+    Ok(judged_layout(&ops[start..]))
+}
+
+impl DefinitionList {
+    /// Reads a definition after its abbreviation id, and adds it. If it fails, some operands may have been added.
+    #[inline(always)]
+    fn try_read<S: Source>(
+        &mut self,
+        reader: &mut BitReader<S>,
+        shapes: Shapes,
+    ) -> Result<(), Fault>
+        requires live { reader.old.live ≡ true }
+        requires held { AreHeld self.old.ops.items self.old.heads.items }
+        ensures reads { TriesOne shapes reader.old result reader.new self.old self.new }
+    {
+        let start = self.ops.len();
+        let layout = read_definition(reader, shapes, &mut self.ops)?;
+        match self.close(start, layout) {
+            Ok(()) => Ok(()),
+            Err(_) => Err(reader.fail(Fault::Memory)),
+        }
+    }
+
+    /// Reads a definition after its abbreviation id, and adds it. If it fails, nothing changes.
+    pub(crate) fn read<S: Source>(
+        &mut self,
+        reader: &mut BitReader<S>,
+        shapes: Shapes,
+    ) -> Result<(), Fault>
+        requires live { reader.old.live ≡ true }
+        requires held { AreHeld self.old.ops.items self.old.heads.items }
+        ensures reads { ReadsOne shapes reader.old result reader.new self.old self.new }
+    {
+        let start = self.ops.len();
+        match self.try_read(reader, shapes) {
+            Ok(()) => Ok(()),
+            Err(fault) => {
+                self.ops.truncate(start);
+                Err(fault)
+            }
+        }
+    }
+}
+
+impl Definitions {
+    /// Reads a definition of the innermost block, after its abbreviation id, and adds it to those of the block. If it fails, nothing changes.
+    fn read_own<S: Source>(
+        &mut self,
+        reader: &mut BitReader<S>,
+        shapes: Shapes,
+    ) -> Result<(), Fault>
+        requires live { reader.old.live ≡ true }
+        requires sound { IsSound self.old }
+        ensures reads { AddsRead (definition shapes) reader.old result reader.new (AddsOwn self.old self.new) }
+        ensures err { OnErr result (Alike self.old self.new) }
+    {
+        self.own.read(reader, shapes)
+    }
+
+    /// Reads a definition of a BLOCKINFO block, after its abbreviation id, and adds it to those for a block id. If it fails, nothing changes.
+    fn read_made<S: Source>(
+        &mut self,
+        reader: &mut BitReader<S>,
+        shapes: Shapes,
+        id: u32,
+    ) -> Result<(), Fault>
+        requires live { reader.old.live ≡ true }
+        requires sound { IsSound self.old }
+        ensures reads { AddsRead (definition shapes) reader.old result reader.new (AddsMade self.old self.new id) }
+        ensures err { OnErr result (Alike self.old self.new) }
+    {
+        if self.made.groups.reserve(1).is_err() {
+            return Err(reader.fail(Fault::Memory));
+        }
+        self.made.list.read(reader, shapes)?;
+        self.made.note(id);
+        Ok(())
+    }
+
+    /// Reads a definition after its abbreviation id, and adds it: to those of the innermost block, or if that is a BLOCKINFO block, to those
+    /// for a block id. If it fails, nothing changes.
+    pub fn read<S: Source>(
+        &mut self,
+        reader: &mut BitReader<S>,
+        shapes: Shapes,
+        described: Option<u32>,
+    ) -> Result<(), Fault>
+        requires live { reader.old.live ≡ true }
+        requires sound { IsSound self.old }
+        ensures reads { AddsRead (definition shapes) reader.old result reader.new (AddsTo described self.old self.new) }
+        ensures err { OnErr result (Alike self.old self.new) }
+    {
+        match described {
+            None => self.read_own(reader, shapes),
+            Some(id) => self.read_made(reader, shapes, id),
+        }
     }
 }

@@ -1,14 +1,12 @@
 //! How the fields of a record are laid out.
 
-ghost use Rattle.std.specs.Prelude.{◌≡◌, ◌≢◌, ◌<◌, ℕ, true, length};
+ghost use Rattle.std.specs.Prelude.{◌≡◌, ◌≢◌, ◌<◌, ◌≤◌, ◌-◌, true, false, length, get_or};
 ghost use Rattle.bit_grammar.specs.Definition.{has_shape};
-ghost use Rattle.bit_grammar.specs.FormatDefinition.{op_at, Definable};
-ghost use Rattle.bit_grammar.specs.declared.op.Op.TheVariants.{Vbr};
-ghost use Rattle.bit_abbrev.specs.Operands.{HasTail};
-ghost use Rattle.bit_abbrev.specs.Layouts.{HasLayout};
+ghost use Rattle.bit_abbrev.specs.declared.held_op.HeldOp.TheVariants.{Array, Blob, End};
+ghost use Rattle.bit_abbrev.specs.HeldPlaces.{ops_of};
+ghost use Rattle.bit_abbrev.specs.PlaceLayouts.{ArePlain, HasLayout, IsPlain};
 
-use crate::tail::Tail;
-use bit_grammar::Op;
+use crate::held_op::HeldOp;
 
 /// How many operands a definition has at most whose layout is not `Odd`.
 const MOST: usize = 32;
@@ -22,38 +20,75 @@ pub enum Layout {
     Coded,
     /// A code, single operands and an array.
     List,
-    /// Otherwise.
+    /// Otherwise: it ends with a blob, has more operands, a literal above 65,535, or a number in chunks of no bits.
     Odd,
+    /// The operands are in no lawful order: no record may use them.
+    Unlawful,
 }
 
-/// Whether each number has chunks: one in chunks of no bits is 0.
-fn have_chunks(ops: &[Op]) -> bool
-    ensures { result ≡ true → (i : ℕ) → i < length ops.now → op_at ops.now i ≢ Vbr 0 }
+/// Whether the last operand is a blob.
+#[inline(always)]
+fn has_blob(ops: &[HeldOp]) -> bool
+    requires { 0 < length ops.now }
+    ensures yes { result ≡ true → get_or ops.now (length ops.now - 1) End ≡ Blob }
+    ensures no { result ≡ false → get_or ops.now (length ops.now - 1) End ≢ Blob }
 {
-    for op in ops {
-        if matches!(op, Op::Vbr(0)) {
-            return false;
-        }
-    }
-    true
+    matches!(ops[ops.len() - 1], HeldOp::Blob)
 }
 
-/// How the fields of a record of these operands are laid out.
-pub(crate) fn layout_of(ops: &[Op], usable: bool, tail: Tail) -> Layout
-    requires definable { Definable ops.now }
-    requires usable { usable ≡ has_shape ops.now }
-    requires tail { usable ≡ true → HasTail ops.now tail }
+/// Whether the last operand but one is an array.
+#[inline(always)]
+fn has_array(ops: &[HeldOp]) -> bool
+    ensures yes { result ≡ true → (2 ≤ length ops.now) × (get_or ops.now (length ops.now - 2) End ≡ Array) }
+    ensures no { result ≡ false → 2 ≤ length ops.now → get_or ops.now (length ops.now - 2) End ≢ Array }
+{
+    if ops.len() < 2 {
+        return false;
+    }
+    matches!(ops[ops.len() - 2], HeldOp::Array)
+}
+
+/// How the fields of a record of these operands are laid out. They are in a lawful order; one that is odd is known.
+#[inline(always)]
+pub(crate) fn layout_of(ops: &[HeldOp], has_odd: bool) -> Layout
+    requires some { 0 < length ops.now }
+    requires shape { has_shape (ops_of ops.now) ≡ true }
+    requires plain { has_odd ≡ false → ArePlain ops.now }
     ensures { HasLayout ops.now result }
 {
-    if !usable || ops.len() > MOST || !have_chunks(ops) {
+    if has_odd || ops.len() > MOST || has_blob(ops) {
         return Layout::Odd;
     }
-    match tail {
-        Tail::Nothing => match ops[0] {
-            Op::Literal(_) => Layout::Singles,
-            _ => Layout::Coded,
-        },
-        Tail::Array => Layout::List,
-        Tail::Blob => Layout::Odd,
+    if has_array(ops) {
+        return Layout::List;
     }
+    match ops[0] {
+        HeldOp::Literal(_) => Layout::Singles,
+        _ => Layout::Coded,
+    }
+}
+
+/// Whether a record with an operand in this place is read one value after another.
+#[inline(always)]
+fn is_odd(place: HeldOp) -> bool
+    ensures { result ≡ false → IsPlain place }
+{
+    match place {
+        HeldOp::Literal(_) | HeldOp::Array | HeldOp::Char6 | HeldOp::Blob => false,
+        HeldOp::Fixed(width) => width > 32,
+        HeldOp::Vbr(width) => width < 2 || width > 32,
+        HeldOp::Great(_) | HeldOp::More(_) | HeldOp::End => true,
+    }
+}
+
+/// Whether a record with one of these operands is.
+pub(crate) fn has_odd(places: &[HeldOp]) -> bool
+    ensures { result ≡ false → ArePlain places.now }
+{
+    for place in places {
+        if is_odd(*place) {
+            return true;
+        }
+    }
+    false
 }

@@ -1,56 +1,49 @@
 //! Abbreviations, abbreviated records, and the table of the definitions that BLOCKINFO blocks make. Begin with `read_define`, which
 //! reads a definition, and `read_abbreviated`, which reads a record by it.
 //!
-//! There is one function for one rule of `bit_grammar`, with the parts in the same order, proved by unfolding the rule. The rules
-//! of a record are written once, over the trait `Bits`: a `BitReader` judges and reports faults, and `Buffered` reports only a miss
-//! (`NotBuffered`), which means nothing for the input. `Runs` adds what is read by runs from buffered bits: fields of one width,
-//! VBRs, bytes. `read_record` and `read_plain` read records with and without a definition; `read_abbreviated` is `read_record` on a
-//! reader, and restores the values if it fails.
+//! `Definitions` holds all definitions of an input, in lists: those of the open blocks, one block behind the other, those of the
+//! BLOCKINFO block that is open, and the tables that finished ones left. A block has only `Marks` of where its own begin. `InForce`
+//! shows the definitions in force in a block, and `BlockDefinitions` also their plans, which are made when they are first used. A
+//! definition is a `Head` and its operands, four bytes each (`HeldOp`). `Abbrev` is a definition that is handed out.
 //!
-//! `SharedInfo` and `InForce` give a block the definitions in force without a copy: a finished table is shared by one `Rc`, and a
-//! block adds its own in a vector. An `Abbrev` knows whether its shape is lawful (`is_usable`); no record may use one that is not.
+//! A record is read in one of two ways. `read_record` reads it by a `BitReader`, which judges it and asks its source. What lies whole in
+//! buffered bits is walked over without a judgement: a `Visitor` counts the values, lists or stores them, or goes by a plan of what to
+//! skip (`walk`), and `take_record` gives the values of any record to a value sink. `None` means nothing for the input: the reader then
+//! reads the record.
 #![tactic(auto)]
 
 mod abbrev;
-mod bits;
-mod builder;
 mod definition;
-mod few;
-mod finished;
-mod found;
-mod from_table;
-mod held;
+mod definitions;
 mod held_op;
-mod held_record;
-mod in_force;
 mod info;
 mod laws;
 mod layout;
-mod op_row;
+mod list;
+mod op_list;
 mod op_taker;
+mod placed;
 mod plan;
-mod ready;
+mod plans;
 mod record;
-mod runs;
-mod scalars;
-mod short_op;
-mod tail;
+mod table;
+mod taking;
+mod walk;
 mod widths;
 
 pub use abbrev::{Abbrev, BadAbbrev, Ops};
 pub use bit_grammar::Op;
-pub use bits::{Bits, NotBuffered};
-pub use builder::InfoBuilder;
-pub use definition::{read_count, read_define, read_ops};
-pub use few::{FEW, read_few};
-pub use found::Found;
-pub use held::HeldOps;
-pub use held_record::read_held_record;
-pub use in_force::{Definitions, InForce, SharedInfo};
+pub use definition::read_define;
+pub use definitions::{BlockDefinitions, Definitions, InForce, Marks};
+pub use held_op::{HeldOp, HeldOps};
 pub use info::InfoTable;
 pub use laws::lawful_unbroken;
 pub use layout::Layout;
-pub use plan::{MARGIN, Passed, Plan, pass_plain};
-pub use record::{read_abbreviated, read_plain, read_record};
-pub use runs::Runs;
-pub use scalars::{FIELDS, MOST_VALUES, pass_by_operands, pass_ops, value_of};
+pub use list::Head;
+pub use plan::{MARGIN, Plan};
+pub use record::{Begun, read_abbreviated, read_record};
+pub use taking::{Taken, take_record};
+pub use walk::{
+    Coming, Counting, FEW, FIELDS, Here, Listing, MOST_VALUES, Planned, Visitor, Walked, value_of,
+    walk,
+};

@@ -1,5 +1,3 @@
-//! Reading records from any source of bits.
-
 ghost use Rattle.std.specs.Prelude.{◌≡◌, ◌≢◌, ◌+◌, ◌-◌, ◌≤◌, ℕ, List, [], ◌∷◌, ◌++◌, Ok, Err, IfErr, IfOk, OnErr, OnOk, length, true, nat_le, false};
 ghost use Rattle.std.specs.List.{AllByRecursion};
 ghost use Rattle.bit_grammar.specs.Grammar.{gives};
@@ -14,334 +12,251 @@ ghost use Rattle.bit_fields.specs.Reader.{Takes, IsOnly, failed_reader};
 ghost use Rattle.bit_abbrev.specs.Bits.{Answers};
 ghost use Rattle.bit_abbrev.specs.Operands.{OthersInOrder, others_of};
 ghost use Rattle.bit_abbrev.specs.Values.{AddsAll, AddsFew, AddsFirst, AddsWithin, Gains, Keeps, PassesFirst, Recorded};
+//! Reading records by a reader, which judges them and asks its source.
 
 use crate::abbrev::Abbrev;
-use crate::bits::Bits;
-use crate::runs::Runs;
-use bit_fields::{BitReader, ChunkWidth, Fault, FieldWidth, Source, ValueTaker};
+use crate::definitions::InForce;
+use crate::held_op::held;
+use crate::layout::Layout;
+use crate::op_list::OpList;
+use crate::taking::take_some;
+use bit_fields::{BitReader, Fault, Source, ValueTaker};
 use bit_grammar::{Op, Reason};
+
+/// How many fields the reader reads before more are looked for in place.
+const FEW: u64 = 16;
 
 /// Gives a value to the value sink.
 #[inline(always)]
-pub(crate) fn keep<B: Bits, V: ValueTaker>(
-    bits: &mut B,
+fn keep<S: Source, V: ValueTaker>(
+    reader: &mut BitReader<S>,
     values: &mut V,
     value: u64,
-) -> Result<(), B::Miss>
-    ensures ok { OnOk result ((B.as_reader bits.new ≡ B.as_reader bits.old)
-        × ((before : List ℕ) → V.took values.old before
-        → V.took values.new (before ++ value ∷ []))) }
-    ensures err { IfErr result (λ miss. (fault : Fault) → B.faults miss fault
-        → (fault ≡ Memory) × (B.as_reader bits.new ≡ failed_reader (B.as_reader bits.old))) }
-    ensures same { OnErr result
-        ((before : List ℕ) → V.took values.old before → V.took values.new before) }
-{
+) -> Result<(), Fault> {
     match values.take(value) {
         Ok(()) => Ok(()),
-        Err(_) => Err(bits.out_of_memory()),
+        Err(_) => Err(reader.fail(Fault::Memory)),
     }
 }
 
 /// Reads a number of values, at most `room`.
-#[inline(always)]
-#[tactic(auto, unfolding(bit_grammar::specs::Record::value_count))]
-fn read_count<B: Bits>(bits: &mut B, room: u64) -> Result<u64, B::Miss>
-    ensures takes { Answers B.faults (λ r. Takes (value_count room) (B.as_reader bits.old) r
-        (B.as_reader bits.new)) result }
-    ensures few { IfOk result (λ count. count ≤ room) }
-{
-    let first = bits.position();
-    let count = bits.vbr(ChunkWidth { bits: 6 })?;
-    bits.judge(count <= room, Reason::TooManyValues, first)?;
+fn read_count<S: Source>(reader: &mut BitReader<S>, room: u64) -> Result<u64, Fault> {
+    let first = reader.position();
+    let count = reader.vbr(6)?;
+    reader.judge(count <= room, Reason::TooManyValues, first)?;
     Ok(count)
 }
 
-/// Reads the field of an operand that gives one value. The usual widths are constants in the calls.
+/// Reads the field of an operand that gives one value.
 #[inline(always)]
-#[tactic(auto, unfolding(bit_grammar::specs::Record::scalar, bit_grammar::specs::Fields::vbr))]
-pub(crate) fn read_scalar<B: Bits>(bits: &mut B, op: Op) -> Result<u64, B::Miss>
-    requires lawful { HasLawfulValue op }
-    requires live { (B.as_reader bits.old).live ≡ true }
-    ensures takes { Answers B.faults (λ r. Takes (scalar op) (B.as_reader bits.old) r
-        (B.as_reader bits.new)) result }
-    ensures missed { OnErr result (B.missed bits.old bits.new) }
-{
+fn read_scalar<S: Source>(reader: &mut BitReader<S>, op: Op) -> Result<u64, Fault> {
     match op {
         Op::Literal(value) => Ok(value),
-        Op::Fixed(0) => Ok(0),
-        Op::Vbr(0) | Op::Array | Op::Blob => Ok(0),
-        Op::Fixed(width) => bits.fixed(FieldWidth::of(width)),
-        Op::Vbr(6) => bits.vbr(ChunkWidth { bits: 6 }),
-        Op::Vbr(width) => bits.vbr(ChunkWidth::of(width)),
-        Op::Char6 => bits.char6(),
-    }
-}
-
-/// Reads such a field without using its value.
-#[inline(always)]
-#[tactic(auto, unfolding(bit_grammar::specs::Record::scalar, bit_grammar::specs::Fields::vbr))]
-fn skip_scalar<B: Bits>(bits: &mut B, op: Op) -> Result<u64, B::Miss>
-    requires lawful { HasLawfulValue op }
-    requires live { (B.as_reader bits.old).live ≡ true }
-    ensures { Answers B.faults (λ r. Takes (scalar op) (B.as_reader bits.old) r
-        (B.as_reader bits.new)) result }
-{
-    match op {
-        Op::Vbr(0) => Ok(0),
-        Op::Vbr(width) => bits.pass_vbr(ChunkWidth::of(width)),
-        op => read_scalar(bits, op),
+        Op::Fixed(0) | Op::Vbr(0) | Op::Array | Op::Blob => Ok(0),
+        Op::Fixed(width) => reader.fixed(u32::from(width)),
+        Op::Vbr(width) => reader.vbr(u32::from(width)),
+        Op::Char6 => reader.char6(),
     }
 }
 
 /// Adds `count` zeros, which take no bits, in one call once the value sink accepts it.
-pub(crate) fn read_zeros<B: Bits, V: ValueTaker>(
-    bits: &mut B,
+fn read_zeros<S: Source, V: ValueTaker>(
+    reader: &mut BitReader<S>,
     count: u64,
     values: &mut V,
-) -> Result<(), B::Miss>
-    requires live { (B.as_reader bits.old).live ≡ true }
-    ensures adds { Answers B.faults (λ r. Gains V.took values.old values.new
-        (AddsAll (gives 0) count (B.as_reader bits.old) r (B.as_reader bits.new))) result }
-    ensures keeps { Keeps V.took values.old values.new }
-{
+) -> Result<(), Fault> {
     for done in 0..count {
         if values.pass_zeros(count - done) {
             return Ok(());
         }
-        keep(bits, values, 0)?;
+        keep(reader, values, 0)?;
     }
     Ok(())
 }
 
-/// Reads `count` fields of an operand that has a width: in runs, with a single field after each run.
-#[inline(always)]
-fn read_runs<U, B: Runs, V: ValueTaker>(
-    bits: &mut B,
-    count: u64,
-    element: Op,
+/// Reads at most `most` fields of an operand that are there, if 64 bits are. Returns how many.
+fn read_some<S: Source, V: ValueTaker>(
+    reader: &mut BitReader<S>,
+    most: u64,
+    op: Op,
     values: &mut V,
-) -> Result<(), B::Miss>
-    requires element { IsElement element }
-    requires lawful { HasLawfulValue element }
-    requires live { (B.as_reader bits.old).live ≡ true }
-    ensures adds { Answers B.faults (λ r. Gains V.took values.old values.new
-        (AddsAll (scalar element) count (B.as_reader bits.old) r (B.as_reader bits.new))) result }
-    ensures keeps { Keeps V.took values.old values.new }
-{
+) -> Result<u64, Fault> {
+    let bits = reader.bits();
+    if !bits.has(64) {
+        return Ok(0);
+    }
+    let first = bits.position();
+    let Ok((count, after)) = take_some(bits, most, held(op), values) else {
+        return Err(reader.fail(Fault::Memory));
+    };
+    let len = after.position() - first;
+    reader.catch_up(len);
+    Ok(count)
+}
+
+/// Reads `count` fields of an operand by the reader alone.
+#[inline(always)]
+fn read_each<S: Source, V: ValueTaker>(
+    reader: &mut BitReader<S>,
+    count: u64,
+    op: Op,
+    values: &mut V,
+) -> Result<(), Fault> {
+    for _ in 0..count {
+        let value = read_scalar(reader, op)?;
+        keep(reader, values, value)?;
+    }
+    Ok(())
+}
+
+/// The same in a loop for each kind of operand.
+#[inline(never)]
+fn read_few<S: Source, V: ValueTaker>(
+    reader: &mut BitReader<S>,
+    count: u64,
+    op: Op,
+    values: &mut V,
+) -> Result<(), Fault> {
+    match op {
+        Op::Fixed(width) => read_each(reader, count, Op::Fixed(width), values),
+        Op::Vbr(width) => read_each(reader, count, Op::Vbr(width), values),
+        Op::Char6 => read_each(reader, count, Op::Char6, values),
+        Op::Literal(_) | Op::Array | Op::Blob => unreachable!(),
+    }
+}
+
+/// Reads `count` fields of an operand: those that are there at once, and a few after each such run.
+fn read_elements<S: Source, V: ValueTaker>(
+    reader: &mut BitReader<S>,
+    count: u64,
+    op: Op,
+    values: &mut V,
+) -> Result<(), Fault> {
+    if let Op::Fixed(0) | Op::Vbr(0) = op {
+        return read_zeros(reader, count, values);
+    }
     let mut done = 0;
-    loop {
-        done += bits.some(count - done, element, values)?;
-        if done == count {
-            return Ok(());
+    while done < count {
+        done += read_some(reader, count - done, op, values)?;
+        let few = FEW.min(count - done);
+        read_few(reader, few, op, values)?;
+        done += few;
+    }
+    Ok(())
+}
+
+/// Reads the elements of an array, or the bytes of a blob, after their number.
+fn read_list<S: Source, V: ValueTaker>(
+    reader: &mut BitReader<S>,
+    room: u64,
+    element: Option<Op>,
+    values: &mut V,
+) -> Result<(), Fault> {
+    let count = read_count(reader, room)?;
+    if let Some(element) = element {
+        return read_elements(reader, count, element, values);
+    }
+    reader.pad()?;
+    read_elements(reader, count, Op::Fixed(8), values)?;
+    reader.pad()
+}
+
+/// How many operands give one value each. All are in a lawful order.
+fn singles_in<O: OpList>(ops: O) -> u64 {
+    let mut left = ops;
+    let mut count = 0;
+    while let Some((op, rest)) = left.parted() {
+        if let Op::Array | Op::Blob = op {
+            break;
         }
-        let value = bits.one(element)?;
-        keep(bits, values, value)?;
-        done += 1;
+        count += 1;
+        left = rest;
     }
+    count
 }
 
-/// Reads `count` elements of an array.
-#[inline(always)]
-fn read_elements<U, B: Runs, V: ValueTaker>(
-    bits: &mut B,
-    count: u64,
-    element: Op,
-    values: &mut V,
-) -> Result<(), B::Miss>
-    requires element { IsElement element }
-    requires lawful { HasLawfulValue element }
-    requires live { (B.as_reader bits.old).live ≡ true }
-    ensures adds { Answers B.faults (λ r. Gains V.took values.old values.new
-        (AddsAll (scalar element) count (B.as_reader bits.old) r (B.as_reader bits.new))) result }
-    ensures keeps { Keeps V.took values.old values.new }
-{
-    match element {
-        Op::Fixed(0) => bits.zeros(count, values),
-        Op::Vbr(0) => bits.zeros(count, values),
-        _ => read_runs::<U, B, V>(bits, count, element, values),
-    }
-}
-
-/// Reads an array of fields of an operand, at most `room` of them.
-#[inline(always)]
-pub(crate) fn read_array<U, B: Runs, V: ValueTaker>(
-    bits: &mut B,
-    room: u64,
-    element: Op,
-    values: &mut V,
-) -> Result<(), B::Miss>
-    requires element { IsElement element }
-    requires lawful { HasLawfulValue element }
-    ensures adds { (others : List Op) → Answers B.faults (λ r. Gains V.took values.old values.new
-        (AddsFew (values_of room (Array ∷ element ∷ others)) room (B.as_reader bits.old) r
-        (B.as_reader bits.new))) result }
-    ensures keeps { Keeps V.took values.old values.new }
-{
-    let count = read_count(bits, room)?;
-    read_elements::<U, B, V>(bits, count, element, values)
-}
-
-/// Reads a blob of at most `room` bytes.
-#[inline(always)]
-pub(crate) fn read_blob<U, B: Runs, V: ValueTaker>(
-    bits: &mut B,
+/// Reads the values of a record by the operands behind its code, of which the single ones fit into the room.
+fn read_behind_code<O: OpList, S: Source, V: ValueTaker>(
+    reader: &mut BitReader<S>,
+    ops: O,
     room: u64,
     values: &mut V,
-) -> Result<(), B::Miss>
-    ensures adds { (others : List Op) → Answers B.faults (λ r. Gains V.took values.old values.new
-        (AddsFew (values_of room (Blob ∷ others)) room (B.as_reader bits.old) r
-        (B.as_reader bits.new))) result }
-    ensures keeps { Keeps V.took values.old values.new }
-{
-    let count = read_count(bits, room)?;
-    bits.pad()?;
-    read_runs::<U, B, V>(bits, count, Op::Fixed(8), values)?;
-    bits.pad()
-}
-
-/// Skips the fields of operands that give one value each.
-#[inline(always)]
-fn skip_singles<B: Bits>(bits: &mut B, ops: &[Op]) -> Result<(), B::Miss>
-    requires single { singles ops.now ≡ length ops.now }
-    requires lawful { AllByRecursion HasLawfulValue ops.now }
-    requires live { (B.as_reader bits.old).live ≡ true }
-    ensures { (room : ℕ) (tail : List Op) → Answers B.faults (PassesFirst room ops.now tail
-        (B.as_reader bits.old) (B.as_reader bits.new)) result }
-{
-    for op in ops {
-        skip_scalar(bits, *op)?;
+) -> Result<(), Fault> {
+    let mut left = ops;
+    while let Some((op, rest)) = left.parted() {
+        if let Op::Array | Op::Blob = op {
+            let element = match rest.parted() {
+                Some((element, _)) => Some(element),
+                None => None,
+            };
+            return read_list(reader, room, element, values);
+        }
+        let value = read_scalar(reader, op)?;
+        keep(reader, values, value)?;
+        left = rest;
     }
     Ok(())
 }
 
-/// Reads the values of operands that give one value each, or skips them if the value sink does not use them.
-#[inline(always)]
-fn read_singles<U, B: Bits, V: ValueTaker>(
-    bits: &mut B,
-    ops: &[Op],
-    values: &mut V,
-) -> Result<(), B::Miss>
-    requires single { singles ops.now ≡ length ops.now }
-    requires lawful { AllByRecursion HasLawfulValue ops.now }
-    requires live { (B.as_reader bits.old).live ≡ true }
-    ensures adds { (room : ℕ) (tail : List Op) → Answers B.faults (λ r. Gains V.took values.old
-        values.new (AddsFirst room ops.now tail (B.as_reader bits.old) r (B.as_reader bits.new)))
-        result }
-    ensures keeps { Keeps V.took values.old values.new }
-{
-    if values.pass(ops.len() as u64) {
-        return skip_singles(bits, ops);
-    }
-    for op in ops {
-        let value = read_scalar(bits, *op)?;
-        keep(bits, values, value)?;
-    }
-    Ok(())
-}
-
-/// Reads the values of operands, at most `room`. The first `count` operands give one value each.
-#[inline(always)]
-fn read_values<U, B: Runs, V: ValueTaker>(
-    bits: &mut B,
-    room: u64,
-    ops: &[Op],
-    count: usize,
-    values: &mut V,
-) -> Result<(), B::Miss>
-    requires order { OthersInOrder ops.now }
-    requires singles { count ≡ singles ops.now }
-    requires within { count ≤ length ops.now }
-    requires lawful { AllByRecursion HasLawfulValue ops.now }
-    requires live { (B.as_reader bits.old).live ≡ true }
-    requires fits { singles ops.now ≤ room }
-    ensures adds { Answers B.faults (λ r. Gains V.took values.old values.new
-        (AddsFew (values_of (room - singles ops.now) ops.now) room (B.as_reader bits.old) r
-        (B.as_reader bits.new))) result }
-    ensures keeps { Keeps V.took values.old values.new }
-{
-    read_singles::<U, B, V>(bits, &ops[..count], values)?;
-    let left = room - count as u64;
-    let last = ops.len() - count;
-    // Tested first, so that the blob is inlined and the buffered bits stay in registers.
-    if last == 1 {
-        return read_blob::<U, B, V>(bits, left, values);
-    }
-    if last == 0 {
-        return Ok(());
-    }
-    read_array::<U, B, V>(bits, left, ops[count + 1], values)
-}
-
-/// Reads a record by its operands. After the first one, `count` of them give one value each.
-#[inline(always)]
-fn read_by_ops<U, B: Runs, V: ValueTaker>(
-    bits: &mut B,
-    ops: &[Op],
-    count: usize,
+/// Reads a record by its operands, which are in a lawful order, after its abbreviation id, which began at `first`.
+fn read_by<O: OpList, S: Source, V: ValueTaker>(
+    reader: &mut BitReader<S>,
+    ops: O,
     first: u64,
     room: u64,
     values: &mut V,
-) -> Result<u64, B::Miss>
-    requires lawful { Lawful ops.now }
-    requires live { (B.as_reader bits.old).live ≡ true }
-    requires singles { count ≡ singles (others_of ops.now) }
-    requires within { count ≤ length (others_of ops.now) }
-    ensures adds { Answers B.faults (λ r. Gains V.took values.old values.new
-        (AddsWithin (abbreviated first room ops.now) room (B.as_reader bits.old) r
-        (B.as_reader bits.new))) result }
-    ensures keeps { Keeps V.took values.old values.new }
-{
-    let [code_op, others @ ..] = ops else {
+) -> Result<u64, Fault> {
+    let Some((code_op, others)) = ops.parted() else {
         unreachable!();
     };
-    bits.judge(count as u64 <= room, Reason::TooManyValues, first)?;
-    let code = read_scalar(bits, *code_op)?;
-    read_values::<U, B, V>(bits, room, others, count, values)?;
+    let count = singles_in(others);
+    reader.judge(count <= room, Reason::TooManyValues, first)?;
+    let code = read_scalar(reader, code_op)?;
+    read_behind_code(reader, others, room - count, values)?;
     Ok(code)
 }
 
-/// Reads a record by its definition, after its abbreviation id, which began at `first`: gives its values to the value sink and
-/// returns its code. If it fails, some of its values may have been added.
-///
-/// `U` names the caller. So each caller has its own copy, which the compiler inlines into the caller's loop; the buffered bits
-/// then stay in registers.
-#[inline(always)]
-pub fn read_record<U, B: Runs, V: ValueTaker>(
-    bits: &mut B,
-    abbrev: &Abbrev,
-    first: u64,
+/// An abbreviation id that was read, from 3 on, and its first bit.
+#[derive(Clone, Copy)]
+pub struct Begun {
+    pub id: u64,
+    pub first: u64,
+}
+
+/// Reads a record after its abbreviation id: gives its values to the value sink and returns its code. If it fails, some of its values
+/// may have been added. An id without a definition is `UndefinedAbbrev`, and one whose operands are in no lawful order `AbbrevShape`.
+/// Source: "Abbreviation IDs".
+pub fn read_record<S: Source, V: ValueTaker>(
+    reader: &mut BitReader<S>,
+    definitions: &InForce<'_>,
+    begun: Begun,
     room: u64,
     values: &mut V,
-) -> Result<u64, B::Miss>
-    requires shape { has_shape «abbrev».now ≡ true }
-    requires live { (B.as_reader bits.old).live ≡ true }
-    ensures adds { Answers B.faults (λ r. Gains V.took values.old values.new
-        (AddsWithin (abbreviated first room «abbrev».now) room (B.as_reader bits.old) r
-        (B.as_reader bits.new))) result }
-    ensures keeps { Keeps V.took values.old values.new }
-{
-    let ops = abbrev.lawful_ops();
-    let count = ops.len() - 1 - abbrev.tail().len();
-    read_by_ops::<U, B, V>(bits, ops, count, first, room, values)
+) -> Result<u64, Fault> {
+    let Begun { id, first } = begun;
+    if id == 3 {
+        return read_plain(reader, room, values);
+    }
+    let Some(head) = definitions.head(id) else {
+        reader.judge(false, Reason::UndefinedAbbrev, first)?;
+        unreachable!();
+    };
+    let is_lawful = head.layout != Layout::Unlawful;
+    reader.judge(is_lawful, Reason::AbbrevShape, first)?;
+    read_by(reader, definitions.held(id, head), first, room, values)
 }
 
 /// Reads a record that is not abbreviated, after its abbreviation id: gives its values to the value sink and returns its code. If
 /// it fails, some of its values may have been added. More than `room` values are `TooManyValues` at the first bit of their number.
-/// For `U` see `read_record`. Source: "UNABBREV_RECORD Encoding".
-#[inline(always)]
-pub fn read_plain<U, B: Runs, V: ValueTaker>(
-    bits: &mut B,
+/// Source: "UNABBREV_RECORD Encoding".
+fn read_plain<S: Source, V: ValueTaker>(
+    reader: &mut BitReader<S>,
     room: u64,
     values: &mut V,
-) -> Result<u64, B::Miss>
-    ensures adds { Answers B.faults (λ r. Gains V.took values.old values.new
-        (AddsWithin (unabbreviated room) room (B.as_reader bits.old) r (B.as_reader bits.new)))
-        result }
-    ensures keeps { Keeps V.took values.old values.new }
-{
-    let code = bits.vbr(ChunkWidth { bits: 6 })?;
-    let count = read_count(bits, room)?;
-    read_runs::<U, B, V>(bits, count, Op::Vbr(6), values)?;
+) -> Result<u64, Fault> {
+    let code = reader.vbr(6)?;
+    let count = read_count(reader, room)?;
+    read_elements(reader, count, Op::Vbr(6), values)?;
     Ok(code)
 }
 
@@ -374,7 +289,7 @@ pub fn read_abbreviated<S: Source, V: ValueTaker>(
     }
     let start = reader.position();
     let before = values.count();
-    match read_record::<V, BitReader<S>, V>(reader, abbrev, first, room, values) {
+    match read_by(reader, abbrev.ops(), first, room, values) {
         Ok(code) => Ok(code),
         Err(fault) => {
             values.truncate(before);

@@ -2,12 +2,11 @@ ghost use Rattle.std.specs.Prelude.{◌≡◌};
 ghost use Rattle.bit_grammar.specs.Input.{SpellsInput};
 ghost use Rattle.bit_grammar.specs.Terms.{Marked};
 ghost use Rattle.bit_events.specs.Reading.{ReadsWhole};
-
 use crate::folding::fold;
 use crate::gatherer::Gatherer;
 use crate::passing::{PassedRun, Uncounted, pass_records};
-use bit_abbrev::{Abbrev, InForce};
-use bit_fields::{Fault, KeptSource, Limits, PlacedBits, Source, ValueCount};
+use bit_abbrev::{BlockDefinitions, Coming, HeldOps};
+use bit_fields::{Fault, KeptSource, Limits, Source, ValueCount};
 use std::alloc::{AllocError, Global};
 
 /// A gatherer that keeps nothing.
@@ -29,13 +28,8 @@ impl Gatherer for Nothing {
         Ok(())
     }
 
-    #[inline(always)]
-    fn defined(&mut self, _first: u64, _after: u64) -> Result<bool, AllocError> {
-        Ok(true)
-    }
-
     #[inline]
-    fn define(&mut self, _abbrev: &Abbrev, _first: u64, _after: u64) -> Result<(), AllocError> {
+    fn define(&mut self, _ops: HeldOps<'_>, _first: u64, _after: u64) -> Result<(), AllocError> {
         Ok(())
     }
 
@@ -59,12 +53,10 @@ impl Gatherer for Nothing {
     #[inline(always)]
     fn pass(
         &mut self,
-        bits: PlacedBits<'_>,
-        width: u32,
-        definitions: &InForce,
-        room: u64,
+        next: Coming<'_>,
+        definitions: BlockDefinitions<'_>,
     ) -> Result<PassedRun, AllocError> {
-        pass_records(bits, width, definitions, room, &mut Uncounted)
+        pass_records(next, definitions, &mut Uncounted)
     }
 
     #[inline]

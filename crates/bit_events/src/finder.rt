@@ -1,5 +1,3 @@
-//! Finding the events of a stream, one at a time.
-
 ghost use Rattle.std.specs.Prelude.{◌≡◌, ⊤, ℕ, List, ◌%◌, true, IfOk, IfErr};
 ghost use Rattle.std.specs.Borrow.{Bor, sem, follows_so};
 ghost use mathlib.Core.Option.{none};
@@ -7,14 +5,20 @@ ghost use Rattle.bit_fields.specs.Opening.{head_told};
 ghost use Rattle.bit_events.specs.EventView.{shown_if_any};
 ghost use Rattle.bit_events.specs.Folding.{GathersRest};
 ghost use Rattle.bit_events.specs.Events.{Finds, LendsAs, Shuts, Begun, DeclinesEvents};
+//! Finding the events of a stream, one at a time.
 
-use crate::event::Event;
+use crate::event::{Event, RecordHead};
 use crate::folding::gather_rest;
 use crate::gatherer::Gatherer;
 use crate::machine::{Machine, Step};
+use crate::passing::{CountedRecord, RunCounter, pass_records};
 use crate::with_first::WithFirst;
-use bit_fields::{BitReader, Fault, Head, Limits, PackedValues, Source, ValueKeeper};
-use std::alloc::Global;
+use bit_abbrev::{Abbrev, BlockDefinitions, Coming};
+use bit_fields::{
+    BitReader, Fault, Head, Limits, PackedValues, SliceSource, Source, ValueCount, ValueKeeper,
+    ValueTaker,
+};
+use std::alloc::{AllocError, Global};
 use std::marker::Model;
 
 /// Finds the events of a stream, one at a time: a machine with one frame for each open block, and a value sink that keeps the
@@ -24,14 +28,15 @@ use std::marker::Model;
 #[derive(Drop)]
 pub struct EventFinder<S: Source, V: ValueKeeper> {
     alloc: Global,
-    limits: Limits,
     head: Head,
     reader: BitReader<S>,
     machine: Machine,
     /// The values of the last record.
     values: WithFirst<V>,
-    /// The last event.
+    /// The last event,
     found: Option<Step>,
+    /// and its definition, if it is one.
+    made: Option<Abbrev>,
     /// The bit after the last event, or after the head.
     reached: u64,
     /// The whole input is accepted.
@@ -39,24 +44,23 @@ pub struct EventFinder<S: Source, V: ValueKeeper> {
 }
 
 impl<S: Source, V: ValueKeeper> Model for EventFinder<S, V> {
-    ghost use Rattle.bit_events.specs.Coming.{Coming};
-    ghost use Rattle.bit_events.specs.Events.{coming_of, IsEvents};
-
     ghost Value = { Coming };
 
-    ghost view = { λ e. coming_of e.over e.limits e.head e.machine (V.kept e.values.taker) e.found
+    ghost view = { λ e. coming_of e.over e.machine.limits e.head e.machine (V.kept e.values.taker) e.found
         e.reached e.reader };
 
-    ghost invariant = { λ e. IsEvents e.over e.limits e.machine e.found e.reached e.reader };
+    ghost invariant = { λ e. IsEvents e.over e.machine.limits e.machine e.found e.reached e.reader };
 }
 
 impl<S: Source, V: ValueKeeper> EventFinder<S, V> {
-    ghost use Rattle.bit_events.specs.contracts.finder.EventFinder.{the_row};
-
     /// Begins the events of an input: reads its wrapper, if there is one, and the magic of its stream. It allocates nothing.
     ///
     /// It refuses an input that breaks there, as `BitReader::start` does, and returns its source.
-    pub fn start(alloc: Global, source: S, limits: Limits) -> Result<EventFinder<S, V>, (Fault, S)>
+    pub fn start(
+        alloc: Global,
+        source: S,
+        limits: Limits,
+    ) -> Result<EventFinder<S, V>, (Fault, S)>
         ensures begun { IfOk result (λ events. Begun limits (S.incoming source) events) }
         ensures declined { IfErr result (λ refused. DeclinesEvents limits (S.incoming source)
             refused.0 (S.incoming refused.1)) }
@@ -67,12 +71,12 @@ impl<S: Source, V: ValueKeeper> EventFinder<S, V> {
         let reached = reader.position();
         Ok(EventFinder {
             alloc,
-            limits,
             head,
             reader,
-            machine: Machine::new(alloc, false),
+            machine: Machine::new(alloc, limits),
             values: WithFirst::new(V::empty(alloc)),
             found: None,
+            made: None,
             reached,
             over: false,
         })
@@ -116,16 +120,30 @@ impl<S: Source, V: ValueKeeper> EventFinder<S, V> {
         if !self.reader.is_live() {
             return Err(Fault::Failed);
         }
-        self.found = self.machine.next_lent(
-            self.alloc,
-            &mut self.reader,
-            &self.limits,
-            &mut self.values,
-        )?;
+        self.found = self.machine.next(&mut self.reader, &mut self.values)?;
+        if let Some(Step::Define { .. }) = self.found {
+            self.make()?;
+        }
         // Positions are below 2^64 and rise, so the events end.
         self.reached = self.reader.position();
         self.over = self.found.is_none();
         Ok(())
+    }
+
+    /// Makes the abbreviation of the definition that was found.
+    #[cold]
+    #[inline(never)]
+    fn make(&mut self) -> Result<(), Fault> {
+        let Some(ops) = self.machine.newest() else {
+            unreachable!();
+        };
+        match Abbrev::of_held(self.alloc, ops) {
+            Ok(made) => {
+                self.made = Some(made);
+                Ok(())
+            }
+            Err(_) => Err(self.reader.fail(Fault::Memory)),
+        }
     }
 
     /// Gathers all remaining events, as `fold` does, with values of their own.
@@ -142,19 +160,90 @@ impl<S: Source, V: ValueKeeper> EventFinder<S, V> {
             return Err(Fault::Failed);
         }
         self.found = None;
-        if let Err(fault) = gather_rest(
-            self.alloc,
-            &mut self.reader,
-            &mut self.machine,
-            &self.limits,
-            gatherer,
-        ) {
+        if let Err(fault) = gather_rest(&mut self.reader, &mut self.machine, gatherer) {
             self.machine.drop_blocks();
             return Err(fault);
         }
         self.reached = self.reader.position();
         self.over = true;
         Ok(())
+    }
+
+    /// Forgets the last event and its values, so that values are held once, since a record came behind it that ends at a bit.
+    #[inline(always)]
+    fn forget(&mut self, after: u64) {
+        self.reached = after;
+        if self.found.is_some() {
+            self.values.clear();
+            self.found = None;
+        }
+    }
+
+    /// Reads the next event if it is a complete record: gives its values to the value sink and returns the record without them. If
+    /// it is not, or if a value is not taken, it returns `None`, some values may have been added, and `next` finds the event.
+    #[inline(always)]
+    pub fn record<T: ValueTaker>(&mut self, values: &mut T) -> Option<RecordHead> {
+        let bits = self.reader.bits();
+        let first = bits.position();
+        let read = self.machine.plain_record(bits, values)?;
+        self.reader.catch_up(read.after - first);
+        self.forget(read.after);
+        Some(read)
+    }
+
+    /// Passes over the next records of the innermost block, at most `most`, and returns how many they are.
+    fn pass_records(&mut self, most: u64) -> Result<u64, Fault> {
+        let Some(frame) = self.machine.frames.last() else {
+            return Ok(0);
+        };
+        if !frame.is_plain() {
+            return Ok(0);
+        }
+        let room = self.machine.room();
+        let next = Coming {
+            at: 0,
+            bits: self.reader.bits(),
+            width: u32::from(frame.head.width),
+            room,
+        };
+        let first = next.bits.position();
+        let mut passing = Passing { left: most };
+        let definitions = BlockDefinitions::of(&mut self.machine.definitions, frame.marks);
+        let Ok(run) = pass_records(next, definitions, &mut passing) else {
+            return Err(self.reader.fail(Fault::Memory));
+        };
+        if passing.left < most {
+            self.machine.used += room - run.room;
+            self.reader.catch_up(run.after - first);
+            self.forget(run.after);
+        }
+        Ok(most - passing.left)
+    }
+
+    /// Passes over the next events, at most `most`, and returns how many they are: fewer only if the whole input is accepted. It fails
+    /// as `next` does.
+    pub fn pass(&mut self, most: u64) -> Result<u64, Fault> {
+        let mut left = most;
+        while left > 0 {
+            left -= self.pass_records(left)?;
+            if left > 0 {
+                if self.record(&mut ValueCount::new()).is_none() {
+                    self.find()?;
+                    if self.over {
+                        return Ok(most - left);
+                    }
+                }
+                left -= 1;
+            }
+        }
+        Ok(most)
+    }
+
+    /// Drops all events that are left. They are not read, and the input counts as accepted.
+    pub fn drop_rest(&mut self) {
+        self.machine.drop_blocks();
+        self.forget(self.reached);
+        self.over = true;
     }
 
     /// The last event, with these values lent, or `None` before the first event.
@@ -165,7 +254,7 @@ impl<S: Source, V: ValueKeeper> EventFinder<S, V> {
     {
         match &self.found {
             None => None,
-            Some(found) => found.event(&self.machine, values),
+            Some(found) => found.event(self.made.as_ref(), values),
         }
     }
 
@@ -189,6 +278,26 @@ impl<S: Source, V: ValueKeeper> EventFinder<S, V> {
         Ok(self.event())
     }
 }
+
+/// Counts records down.
+#[derive(Drop)]
+struct Passing {
+    left: u64,
+}
+
+impl RunCounter for Passing {
+    #[inline(always)]
+    fn count(&mut self, _passed: CountedRecord, _values: &[u64]) -> Result<bool, AllocError> {
+        if self.left == 0 {
+            return Ok(false);
+        }
+        self.left -= 1;
+        Ok(true)
+    }
+}
+
+/// The events of a slice of bytes.
+pub type SliceEvents<'a> = PackedEvents<SliceSource<'a>>;
 
 /// The events of a stream, with packed values.
 pub type PackedEvents<S> = EventFinder<S, PackedValues>;

@@ -5,26 +5,8 @@ ghost use Rattle.bit_fields.specs.Reader.{Takes, told_by, failed_reader};
 ghost use Rattle.bit_events.specs.Events.{Shuts};
 ghost use Rattle.bit_events.specs.HeadView.{head_shown};
 ghost use Rattle.bit_events.specs.Runs.{ReadsUpTo};
-
 use crate::head::BlockHead;
 use bit_fields::{BitReader, Fault, PlacedBits, Reason, Source};
-use std::alloc::AllocError;
-
-/// The value that was made; if an allocation for it failed, the reader fails.
-pub(crate) fn or_memory_fault<S: Source, T>(
-    reader: &mut BitReader<S>,
-    got: Result<T, AllocError>,
-) -> Result<T, Fault>
-    ensures ok { IfOk result (λ value. (got ≡ Ok value) × (reader.new ≡ reader.old)) }
-    ensures err { IfErr result (λ fault. (fault ≡ Fault.Memory)
-        × (reader.new ≡ failed_reader reader.old)) }
-    ensures lost { OnErr result (IsErr got) }
-{
-    match got {
-        Ok(value) => Ok(value),
-        Err(_) => Err(reader.fail(Fault::Memory)),
-    }
-}
 
 /// Reads the id of a block.
 fn block_id<S: Source>(reader: &mut BitReader<S>) -> Result<u32, Fault>
@@ -74,49 +56,9 @@ pub(crate) fn block_head<S: Source>(reader: &mut BitReader<S>) -> Result<BlockHe
     })
 }
 
-/// Up to which bit an exact reader has loaded bytes once it has read a field, if it had those up to `loaded` before.
+/// The same in buffered bits. `None` leaves it to the reader: also an id or a width of more than one chunk, which are rare.
 #[inline(always)]
-pub(crate) fn loaded_by(first: u64, bits: u64, loaded: u64) -> u64
-    requires few { bits ≤ 64 }
-    requires fits { first + 64 < 2 ^ 64 }
-{
-    if first + bits > loaded {
-        return (first & !7) + 64;
-    }
-    loaded
-}
-
-/// The same once it has read fields of eight and of four bits.
-#[inline(always)]
-fn loaded_by_two(first: u64, loaded: u64) -> u64
-    requires { first + 72 < 2 ^ 64 }
-{
-    if first + 12 > loaded {
-        return loaded_by(first + 8, 4, loaded_by(first, 8, loaded));
-    }
-    loaded
-}
-
-/// The same once it has read padding up to a bit.
-#[inline(always)]
-fn loaded_by_padding(after: u64, loaded: u64) -> u64
-    requires { after + 64 < 2 ^ 64 }
-{
-    if after > loaded {
-        return loaded + 64;
-    }
-    loaded
-}
-
-/// Reads what comes between a block's abbreviation id and its items, and up to which bit an exact reader has loaded bytes then. `None`
-/// leaves it to that reader: also an id or a width of more than one chunk, and a BLOCKINFO block, which are rare.
-#[inline(always)]
-pub(crate) fn placed_head(bits: PlacedBits<'_>, loaded: u64) -> Option<(BlockHead, u64)>
-    requires { 160 ≤ length (placed bits).bits }
-    ensures reads { IfSome result (λ read. ReadsUpTo block_head (placed bits.entry) (head_shown read.0)
-        read.0.body) }
-    ensures plain { IfSome result (λ read. 0 < read.0.id) }
-{
+pub(crate) fn placed_head(bits: PlacedBits<'_>) -> Option<BlockHead> {
     let first = bits.position();
     let length_at = (first + 12 + 31) & !31;
     let to_length = length_at - first;
@@ -124,20 +66,17 @@ pub(crate) fn placed_head(bits: PlacedBits<'_>, loaded: u64) -> Option<(BlockHea
     let word = bits.front(to_length as u32);
     let id = word & 0xff;
     let width = word >> 8;
-    if id >= 1 << 7 || width >= 1 << 3 || id == 0 || width == 0 {
+    if id >= 1 << 7 || width >= 1 << 3 || width == 0 {
         return None;
     }
     let words = bits.after(to_length).fixed(32);
-    let loaded = loaded_by_two(first, loaded);
-    let loaded = loaded_by(length_at, 32, loaded_by_padding(length_at, loaded));
-    let head = BlockHead {
+    Some(BlockHead {
         id: id as u32,
         width: width as u8,
         length_at,
         words: words as u32,
         body: length_at + 32,
-    };
-    Some((head, loaded))
+    })
 }
 
 /// Whether a block that ends here has the right length.
@@ -166,21 +105,15 @@ pub(crate) fn end_of_block<S: Source>(
     Ok(after)
 }
 
-/// The same of placed bits: the bit after the block, and up to which bit an exact reader has loaded bytes then. `None` leaves it to that
-/// reader.
+/// The bit after the block, if these bits come after the id that ends it, and the end is lawful.
 #[inline(always)]
-pub(crate) fn placed_end(bits: PlacedBits<'_>, head: BlockHead, loaded: u64) -> Option<(u64, u64)>
-    requires { 160 ≤ length (placed bits).bits }
-    ensures reads { IfSome result (λ read. ReadsUpTo (end_of_block (head_shown head))
-        (placed bits.entry) read.0 read.0) }
-    ensures aligned { IfSome result (λ read. read.0 % 32 ≡ 0) }
-{
+pub(crate) fn placed_end(bits: PlacedBits<'_>, head: BlockHead) -> Option<u64> {
     let first = bits.position();
     let after = (first + 31) & !31;
     if bits.fixed((after - first) as u32) != 0 || !ends_at(head, after) {
         return None;
     }
-    Some((after, loaded_by_padding(after, loaded)))
+    Some(after)
 }
 
 /// Outside of all blocks: returns whether the stream has no byte left and its whole input is accepted.

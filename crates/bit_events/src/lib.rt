@@ -2,21 +2,20 @@
 //! an input is accepted, and `Events::start`, which returns its events one at a time. `fold` is the fastest way to take them all,
 //! into your own `Gatherer`.
 //!
-//! `Machine` holds a frame for each open block. Each of its calls takes what the rule for one step reads; `LeavesMachine` relates
-//! the frames, the position and the event. The exact reader reads BLOCKINFO blocks, fields without a width and what crosses the end
-//! of a buffer.
+//! `Machine` holds a frame for each open block, and all definitions. Each of its calls takes what the rule for one step reads;
+//! `LeavesMachine` relates the frames, the position and the event. There are two: `placed_step` and `take` in buffered bits, which judge
+//! nothing and leave what is rare or not there, and `step` by the reader, which judges all of it.
 //!
-//! `fold` stays in the buffer while records, beginnings and ends of blocks come that are complete there: `gather_buffered` gathers
-//! them, and the reader then catches up over all of them. `EventFinder` returns one event at a time over any `ValueKeeper`; `Events`
-//! is that over a vector, `PackedEvents` over `PackedValues`. `SliceEvents` reads the records of a slice in place and keeps its
-//! lookahead from record to record.
+//! All events are found by one loop (`gather_placed`): the gatherer walks over records (`walk_run`), the others are read one by one, and
+//! `placed_step` takes beginnings and ends of blocks and definitions; then the reader catches up, and reads one event that is not whole
+//! there. `EventFinder` returns one event at a time over any `ValueKeeper`; `Events` is that over a vector, `PackedEvents` over
+//! `PackedValues`, and `SliceEvents` reads a slice.
 //!
 //! A setting acts only here: `OpenBlocks` holds the open blocks and returns for each event whether it is kept. The law
 //! `events_left` of `bit_grammar` says that the kept events are those of the tree that the setting leaves.
 #![tactic(auto)]
 
 mod checking;
-mod entry;
 mod event;
 mod events;
 #[cfg(test)]
@@ -37,7 +36,6 @@ mod open_blocks;
 mod open_blocks_tests;
 mod passing;
 mod running;
-mod slice_events;
 #[cfg(test)]
 mod slice_events_tests;
 mod with_first;
@@ -45,9 +43,10 @@ mod with_first;
 pub use checking::{check, check_keeping};
 pub use event::{Event, RecordHead};
 pub use events::Events;
-pub use finder::{EventFinder, PackedEvent, PackedEvents};
+pub use finder::{EventFinder, PackedEvent, PackedEvents, SliceEvents};
 pub use folding::{Folded, fold};
 pub use gatherer::Gatherer;
 pub use open_blocks::OpenBlocks;
-pub use passing::{CountedRecord, PassedRun, RunCounter, Uncounted, pass_records};
-pub use slice_events::SliceEvents;
+pub use passing::{
+    CountedRecord, PassedRun, RunCounter, Uncounted, list_records, pass_records, walk_run,
+};

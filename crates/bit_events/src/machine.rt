@@ -13,23 +13,25 @@ ghost use Rattle.bit_events.specs.HeadView.{head_shown};
 ghost use Rattle.bit_events.specs.FrameView.{info_shown, frames_shown};
 ghost use Rattle.bit_events.specs.Runs.{AddsBehind, StepsHere};
 ghost use Rattle.bit_events.specs.MachineView.{handed_shown, machine_shown, bit_after, step_shown, after_step, KeepsValues, record_of, innermost_head, LeavesMachine, TookSome, InBlock, end_rule, define_rule, record_rule};
-
 use crate::event::RecordHead;
-use crate::frame::{Describing, Frame, define, record_after};
+use crate::frame::{Describes, Frame};
 use crate::head::BlockHead;
-use crate::heads::{
-    block_head, end_of_block, loaded_by, or_memory_fault, placed_end, placed_head, shuts,
-};
-use crate::running::{buffered_item, buffered_record};
+use crate::heads::{block_head, end_of_block, placed_end, placed_head, shuts};
 use crate::with_first::WithFirst;
-use bit_abbrev::{Abbrev, InForce, InfoBuilder, SharedInfo};
-use bit_fields::{
-    BitReader, Buffered, Fault, FieldWidth, Limits, PlacedBits, Reason, Source, ValueTaker,
-};
+use bit_abbrev::{Begun, Definitions, HeldOps, Marks, read_record, take_record};
+use bit_fields::{BitReader, Fault, Limits, PlacedBits, Reason, Source, ValueTaker};
 use std::alloc::{AllocError, Global};
 
 /// How many values may come before those of a buffered record, so that all can be counted.
 const MOST_BEFORE: u64 = 1 << 63;
+
+/// How many values a record has at most that is taken in place at once. The reader takes a longer one in runs, and only once if it goes on
+/// behind the bits that are there.
+const MOST_AT_ONCE: u64 = 1 << 16;
+
+/// How many bits must be there for a step that is no record: more than 64 after the longest beginning of a block, which has fields of
+/// 32, 8, 4, 31 and 32 bits.
+const STEP: u64 = 192;
 
 /// The event that one step of the machine found, without what is lent with it: the values of a record and the operands of a
 /// definition. The machine holds the definition as the newest one of its block.
@@ -51,20 +53,29 @@ pub(crate) enum Step {
     },
 }
 
-/// The state between two events: the open blocks, the outermost first, the table for later blocks, and the number of values so far.
+/// The state between two events: the limits of the input, the open blocks, the outermost first, all definitions, and the number of
+/// values so far.
 #[derive(Drop)]
 pub(crate) struct Machine {
+    pub(crate) limits: Limits,
     pub(crate) frames: Vec<Frame>,
-    pub(crate) table: SharedInfo,
+    pub(crate) definitions: Definitions,
     pub(crate) used: u64,
-    /// Whether definitions get plans.
-    pub(crate) planned: bool,
-    /// The last definition that was lent, if it had to be made anew.
-    pub(crate) made: Option<Abbrev>,
 }
 
 impl Step {
-    /// The bit after a step at a block's beginning or end.
+    /// The beginning of a block with this head, at a bit.
+    #[inline(always)]
+    fn enter(head: BlockHead, first: u64) -> Step {
+        Step::Enter {
+            id: head.id,
+            width: head.width,
+            first,
+            body: head.body,
+        }
+    }
+
+    /// The bit after the step.
     #[inline(always)]
     pub(crate) fn after(self) -> u64
         ensures { result ≡ bit_after self }
@@ -76,86 +87,60 @@ impl Step {
             Step::Leave { after } => after,
         }
     }
-
-    /// Whether it is a block's end.
-    #[inline(always)]
-    pub(crate) fn is_end(self) -> bool {
-        match self {
-            Step::Leave { .. } => true,
-            _ => false,
-        }
-    }
 }
 
 impl Machine {
     /// No block is open, and nothing was read.
-    pub(crate) fn new(alloc: Global, planned: bool) -> Machine
-        ensures machine { machine_shown result ≡ at_start }
-        ensures none { vec_len result.frames ≡ 0 }
-    {
+    pub(crate) fn new(alloc: Global, limits: Limits) -> Machine {
         Machine {
+            limits,
             frames: Vec::new(alloc),
-            table: SharedInfo::new(),
+            definitions: Definitions::new(alloc),
             used: 0,
-            planned,
-            made: None,
         }
     }
 
-    /// Opens a block that describes another one, or none.
+    /// The marks of the innermost block.
     #[inline(always)]
-    fn push(
-        &mut self,
-        alloc: Global,
-        head: BlockHead,
-        info: Option<Describing>,
-    ) -> Result<(), AllocError>
-        requires info { info_shown info ≡ info_for head.id }
-        ensures made { OnOk result (machine_shown self.new
-            ≡ inside (head_shown head) (frames_shown self.old.frames.items)
-            (enter head.id (handed_shown self.old))) }
-        ensures more { OnOk result (vec_len self.new.frames ≡ vec_len self.old.frames + 1) }
-        ensures fewer { OnErr result (vec_len self.new.frames ≤ vec_len self.old.frames) }
-    {
-        // The room comes first, so that no path drops the definitions.
-        self.frames.reserve(1)?;
-        let definitions = self.table.enter(alloc, head.id)?;
-        self.frames.push_reserved(Frame {
-            head,
-            definitions,
-            info,
-        });
-        Ok(())
-    }
-
-    /// Opens a BLOCKINFO block.
-    #[cold]
-    #[inline(never)]
-    fn enter_info(&mut self, alloc: Global, head: BlockHead) -> Result<(), AllocError>
-        requires id { head.id ≡ 0 }
-        ensures made { OnOk result (machine_shown self.new
-            ≡ inside (head_shown head) (frames_shown self.old.frames.items)
-            (enter head.id (handed_shown self.old))) }
-        ensures more { OnOk result (vec_len self.new.frames ≡ vec_len self.old.frames + 1) }
-        ensures fewer { OnErr result (vec_len self.new.frames ≤ vec_len self.old.frames) }
-    {
-        let made = InfoBuilder::new(alloc);
-        let described = None;
-        self.push(alloc, head, Some(Describing { described, made }))
+    fn marks(&self) -> Marks {
+        match self.frames.last() {
+            Some(frame) => frame.marks,
+            None => Marks::none(),
+        }
     }
 
     /// Opens a block.
-    fn enter(&mut self, alloc: Global, head: BlockHead) -> Result<(), AllocError>
-        ensures made { OnOk result (machine_shown self.new
-            ≡ inside (head_shown head) (frames_shown self.old.frames.items)
-            (enter head.id (handed_shown self.old))) }
-        ensures more { OnOk result (vec_len self.new.frames ≡ vec_len self.old.frames + 1) }
-        ensures fewer { OnErr result (vec_len self.new.frames ≤ vec_len self.old.frames) }
-    {
-        if head.id == 0 {
-            return self.enter_info(alloc, head);
+    #[inline(always)]
+    fn enter(&mut self, head: BlockHead) -> Result<(), AllocError> {
+        let describes = if head.id == 0 {
+            Describes::NoneYet
+        } else {
+            Describes::Itself
+        };
+        let marks = self.definitions.enter(self.marks(), head.id);
+        self.frames.push(Frame {
+            head,
+            marks,
+            describes,
+        })?;
+        Ok(())
+    }
+
+    /// Drops the innermost block, which ends. A BLOCKINFO block leaves its table for later blocks.
+    #[inline(always)]
+    fn leave(&mut self, frame: Frame) -> Result<(), AllocError> {
+        self.frames.pop();
+        self.definitions.leave(frame.marks);
+        if frame.is_plain() {
+            return Ok(());
         }
-        self.push(alloc, head, None)
+        self.definitions.share(self.marks())
+    }
+
+    /// Whether another block may be opened.
+    #[inline(always)]
+    fn has_depth(&self) -> bool {
+        self.frames.len() < self.limits.depth() as usize
     }
 
     /// Reads a block's beginning, after its id, which began at `first`. Source: "ENTER_SUBBLOCK Encoding".
@@ -163,194 +148,209 @@ impl Machine {
     #[inline(never)]
     fn open_block<S: Source>(
         &mut self,
-        alloc: Global,
         reader: &mut BitReader<S>,
-        limits: &Limits,
         first: u64,
-    ) -> Result<Step, Fault>
-        requires { reader.old.live ≡ true }
-        ensures takes { (list : List ℕ) → Takes (open_block limits.now
-            (frames_shown self.old.frames.items) first (handed_shown self.old)) reader.old
-            (told_by (after_step self.new list) result) reader.new }
-        ensures leaves { (list : List ℕ) → IfOk result (λ step. LeavesMachine limits.now.depth
-            self.old reader.old (step_shown self.new list step) self.new reader.new) }
-        ensures fewer { OnErr result (vec_len self.new.frames ≤ vec_len self.old.frames) }
-    {
-        let fits = self.frames.len() < limits.depth() as usize;
-        reader.judge(fits, Reason::TooDeep, first)?;
+    ) -> Result<Step, Fault> {
+        reader.judge(self.has_depth(), Reason::TooDeep, first)?;
         let head = block_head(reader)?;
-        or_memory_fault(reader, self.enter(alloc, head))?;
-        Ok(Step::Enter {
-            id: head.id,
-            width: head.width,
-            first,
-            body: head.body,
-        })
-    }
-
-    /// Reads the beginning of a block in a block.
-    #[tactic(auto, using(crate::proofs::Stepping::nested_judged, crate::proofs::Stepping::nested_opens))]
-    fn open_nested<S: Source>(
-        &mut self,
-        alloc: Global,
-        reader: &mut BitReader<S>,
-        limits: &Limits,
-        first: u64,
-    ) -> Result<Step, Fault>
-        requires live { reader.old.live ≡ true }
-        requires some { 0 < vec_len self.old.frames }
-        ensures takes { (list : List ℕ) → InBlock self.old (λ f outer. Takes
-            (open_nested limits.now f.head outer first (scope_of f (handed_shown self.old)))
-            reader.old (told_by (after_step self.new list) result) reader.new) }
-        ensures leaves { (list : List ℕ) → IfOk result (λ step. LeavesMachine limits.now.depth
-            self.old reader.old (step_shown self.new list step) self.new reader.new) }
-        ensures fewer { OnErr result (vec_len self.new.frames ≤ vec_len self.old.frames) }
-    {
-        let plain = self.is_plain();
-        reader.judge(plain, Reason::NestedInBlockInfo, first)?;
-        self.open_block(alloc, reader, limits, first)
+        if self.enter(head).is_err() {
+            return Err(reader.fail(Fault::Memory));
+        }
+        Ok(Step::enter(head, first))
     }
 
     /// Whether the innermost block is no BLOCKINFO block.
-    #[tactic(auto, using(crate::proofs::Stepping::plain_is))]
     fn is_plain(&self) -> bool
         requires { 0 < vec_len self.now.frames }
         ensures { InBlock self.now (λ f outer. result ≡ is_none f.info) }
     {
         match self.frames.last() {
-            Some(frame) => frame.info.is_none(),
+            Some(frame) => frame.is_plain(),
             None => true,
         }
     }
 
     /// Reads the end of the innermost block, after its id. Source: "END_BLOCK Encoding".
-    fn end_block<S: Source>(
-        &mut self,
-        alloc: Global,
-        reader: &mut BitReader<S>,
-    ) -> Result<Step, Fault>
-        requires live { reader.old.live ≡ true }
-        requires some { 0 < vec_len self.old.frames }
-        ensures takes { (list : List ℕ) → InBlock self.old (λ f outer. Takes
-            (end_rule f outer (handed_shown self.old))
-            reader.old (told_by (after_step self.new list) result) reader.new) }
-        ensures leaves { (deepest : ℕ) (list : List ℕ) → IfOk result
-            (λ step. LeavesMachine deepest self.old reader.old (step_shown self.new list step)
-            self.new reader.new) }
-        ensures fewer { OnErr result (vec_len self.new.frames ≤ vec_len self.old.frames) }
-    {
-        let Some(frame) = self.frames.pop() else {
+    fn end_block<S: Source>(&mut self, reader: &mut BitReader<S>) -> Result<Step, Fault> {
+        let Some(frame) = self.frames.last() else {
             unreachable!();
         };
+        let frame = *frame;
         let after = end_of_block(reader, frame.head)?;
-        or_memory_fault(reader, self.leave(alloc, frame.info))?;
+        if self.leave(frame).is_err() {
+            return Err(reader.fail(Fault::Memory));
+        }
         Ok(Step::Leave { after })
     }
 
-    /// The width of the abbreviation ids that may begin or end a block here: 2 at the top, and none in a BLOCKINFO block.
+    /// The width of the abbreviation ids here: 2 at the top.
     #[inline(always)]
-    fn id_width(&self) -> Option<u32>
-        ensures inside { IfSome result (λ width. InBlock self.now (λ f outer.
-            (f.info ≡ None) × (width ≡ f.head.width))) }
-        ensures top { IfSome result (λ width. vec_len self.now.frames ≡ 0 → width ≡ 2) }
-        ensures least { IfSome result (λ width. 1 ≤ width) }
-        ensures most { IfSome result (λ width. width ≤ 32) }
-    {
+    fn id_width(&self) -> u32 {
         match self.frames.last() {
-            None => Some(2),
-            Some(frame) => {
-                if frame.info.is_some() {
-                    return None;
-                }
-                Some(u32::from(frame.head.width))
-            }
+            None => 2,
+            Some(frame) => u32::from(frame.head.width),
         }
     }
 
-    /// Opens a block whose beginning is at `first`; the bits are those after its id. It is no BLOCKINFO block. The reader has loaded the
-    /// bits up to `held` with that id.
+    /// Opens a block whose beginning is at `first`; the bits are those after its id.
     #[inline(always)]
     fn open_placed(
         &mut self,
-        alloc: Global,
         bits: PlacedBits<'_>,
-        held: u64,
-        loaded: &mut u64,
-        limits: &Limits,
         first: u64,
-    ) -> Result<Option<Step>, AllocError>
-        requires { 160 ≤ length (placed bits).bits }
-        ensures { IfOk result (λ found. StepsHere (open_block limits.now
-            (frames_shown self.old.frames.items) first (handed_shown self.old)) limits.now.depth
-            self.old (placed bits.entry) found self.new) }
-    {
-        if self.frames.len() >= limits.depth() as usize {
+    ) -> Result<Option<Step>, AllocError> {
+        if !self.has_depth() {
             return Ok(None);
         }
-        let Some((head, held)) = placed_head(bits, held) else {
+        let Some(head) = placed_head(bits) else {
             return Ok(None);
         };
-        *loaded = held;
-        self.push(alloc, head, None)?;
-        Ok(Some(Step::Enter {
-            id: head.id,
-            width: head.width,
-            first,
-            body: head.body,
-        }))
+        self.enter(head)?;
+        Ok(Some(Step::enter(head, first)))
     }
 
-    /// Ends the innermost block; the bits are those after the id, with which the reader has loaded those up to `held`.
+    /// Ends the innermost block; the bits are those after the id.
     #[inline(always)]
-    fn end_placed(&mut self, bits: PlacedBits<'_>, held: u64, loaded: &mut u64) -> Option<Step>
-        requires { 160 ≤ length (placed bits).bits }
-        ensures steps { (deepest : ℕ) → InBlock self.old (λ f outer. f.info ≡ None
-            → StepsHere (end_rule f outer (handed_shown self.old)) deepest self.old
-            (placed bits.entry) result self.new) }
-        ensures outside { vec_len self.old.frames ≡ 0 → IsNone result }
-        ensures stays { IfNone result (self.new ≡ self.old) }
-        ensures moves { IfSome result (λ step. (placed bits.entry).position ≤ bit_after step) }
-    {
+    fn end_placed(&mut self, bits: PlacedBits<'_>) -> Result<Option<Step>, AllocError> {
+        let Some(frame) = self.frames.last() else {
+            return Ok(None);
+        };
+        let frame = *frame;
+        let Some(after) = placed_end(bits, frame.head) else {
+            return Ok(None);
+        };
+        self.leave(frame)?;
+        Ok(Some(Step::Leave { after }))
+    }
+
+    /// Adds a definition of the innermost block that comes in these bits, after its id, and returns the bit after it. `None` leaves it to
+    /// the reader, also where an allocation fails.
+    #[cold]
+    #[inline(never)]
+    fn define_placed(&mut self, bits: PlacedBits<'_>) -> Option<u64> {
         let frame = self.frames.last()?;
-        let (after, held) = placed_end(bits, frame.head, held)?;
-        *loaded = held;
-        let Some(_frame) = self.frames.pop() else {
-            unreachable!();
-        };
-        Some(Step::Leave { after })
+        if !frame.may_define() {
+            return None;
+        }
+        self.definitions.place(bits, frame.described())
     }
 
-    /// Finds the beginning or the end of a block in placed bits, of which 192 are there. `None` leaves what comes to the exact reader, and
-    /// the machine as it was: another item, one in a BLOCKINFO block, a block whose id or width takes more than one chunk, and what
-    /// breaks a rule. `loaded` is up to which bit that reader has loaded bytes.
+    /// Takes one step by bits that are there, if it is no record. `None` leaves what comes to the reader, and the machine as it was: what is
+    /// not there, and what breaks a rule.
     #[inline(always)]
-    pub(crate) fn placed_block(
-        &mut self,
-        alloc: Global,
-        bits: PlacedBits<'_>,
-        loaded: &mut u64,
-        limits: &Limits,
-    ) -> Result<Option<Step>, AllocError>
-        requires { 192 ≤ length (placed bits).bits }
-        ensures steps { IfOk result (λ found. StepsHere (step limits.now (machine_shown self.old))
-            limits.now.depth self.old (placed bits.entry) found self.new) }
-        ensures moves { IfOk result (λ found. IfSome found (λ step. (placed bits.entry).position
-            < bit_after step)) }
-    {
-        let Some(width) = self.id_width() else {
+    pub(crate) fn placed_step(&mut self, bits: PlacedBits<'_>) -> Result<Option<Step>, AllocError> {
+        if !bits.has(STEP) {
             return Ok(None);
-        };
-        let first = bits.position();
+        }
+        let width = self.id_width();
         let id = bits.fixed(width);
-        if id > 1 {
+        let fields = bits.after(u64::from(width));
+        let first = bits.position();
+        match id {
+            0 => self.end_placed(fields),
+            1 if self.is_plain() => self.open_placed(fields, first),
+            2 => match self.define_placed(fields) {
+                Some(after) => Ok(Some(Step::Define { first, after })),
+                None => Ok(None),
+            },
+            _ => Ok(None),
+        }
+    }
+
+    /// Takes a record of the innermost block, of at most so many values, by bits that are there, and returns it without its values. These
+    /// come after the earlier values; if it returns `None`, some may have been added.
+    #[inline(always)]
+    fn take<V: ValueTaker>(
+        &mut self,
+        bits: PlacedBits<'_>,
+        most: u64,
+        values: &mut V,
+    ) -> Option<RecordHead> {
+        let frame = self.frames.last()?;
+        let before = values.count();
+        let width = u32::from(frame.head.width);
+        if before > MOST_BEFORE || !bits.has(64) {
+            return None;
+        }
+        let id = bits.fixed(width);
+        if id < 3 {
+            return None;
+        }
+        let fields = bits.after(u64::from(width));
+        let definitions = self.definitions.in_force(frame.marks);
+        let taken = take_record(fields, &definitions, id, most, values)?;
+        self.used += values.count() - before;
+        Some(RecordHead {
+            abbrev: id as u32,
+            code: taken.code,
+            first: bits.position(),
+            after: taken.after,
+        })
+    }
+
+    /// The same, if the innermost block is no BLOCKINFO block.
+    #[inline(always)]
+    pub(crate) fn plain_record<V: ValueTaker>(
+        &mut self,
+        bits: PlacedBits<'_>,
+        values: &mut V,
+    ) -> Option<RecordHead> {
+        if !self.is_plain() {
+            return None;
+        }
+        self.take(bits, self.room(), values)
+    }
+
+    /// The same in a BLOCKINFO block. The earlier values are dropped.
+    #[cold]
+    #[inline(never)]
+    fn info_record<V: ValueTaker>(
+        &mut self,
+        bits: PlacedBits<'_>,
+        values: &mut WithFirst<V>,
+    ) -> Option<RecordHead> {
+        values.clear();
+        let used = self.used;
+        let head = self.take(bits, self.room().min(MOST_AT_ONCE), values)?;
+        let frame = self.frames.last_mut()?;
+        if frame.describe(head.code, values.first).is_err() {
+            self.used = used;
+            return None;
+        }
+        Some(head)
+    }
+
+    /// Takes a record of the innermost block, of any kind and not too long, by bits that are there. The earlier values are dropped; if it returns `None`,
+    /// some may have been added.
+    #[inline(always)]
+    pub(crate) fn record<V: ValueTaker>(
+        &mut self,
+        bits: PlacedBits<'_>,
+        values: &mut WithFirst<V>,
+    ) -> Option<RecordHead> {
+        if self.is_plain() {
+            values.clear();
+            return self.take(bits, self.room().min(MOST_AT_ONCE), &mut values.taker);
+        }
+        self.info_record(bits, values)
+    }
+
+    /// Takes any step by bits that are there. After a record `values` has its values.
+    fn placed_next<V: ValueTaker>(
+        &mut self,
+        bits: PlacedBits<'_>,
+        values: &mut WithFirst<V>,
+    ) -> Result<Option<Step>, AllocError> {
+        if !bits.has(64) {
             return Ok(None);
         }
-        let held = loaded_by(first, u64::from(width), *loaded);
-        let after = bits.after(u64::from(width));
-        if id == 1 {
-            return self.open_placed(alloc, after, held, loaded, limits, first);
+        if bits.fixed(self.id_width()) < 3 {
+            return self.placed_step(bits);
         }
-        Ok(self.end_placed(after, held, loaded))
+        match self.record(bits, values) {
+            Some(head) => Ok(Some(Step::Record(head))),
+            None => Ok(None),
+        }
     }
 
     /// Drops the open blocks. The input is not read on.
@@ -360,335 +360,107 @@ impl Machine {
         self.frames.clear();
     }
 
-    /// Takes the table that a BLOCKINFO block made.
-    fn leave(&mut self, alloc: Global, info: Option<Describing>) -> Result<(), AllocError>
-        ensures made { OnOk result (machine_shown self.new
-            ≡ record {
-              frames = frames_shown self.old.frames.items;
-              handed = leave (info_shown info) (handed_shown self.old);
-            }) }
-        ensures frames { self.new.frames ≡ self.old.frames }
-    {
-        match info {
-            Some(info) => {
-                self.table = SharedInfo::share(alloc, info.made)?;
-                Ok(())
-            }
-            None => Ok(()),
-        }
-    }
-
-    /// Reads a definition in the innermost block, after its id, which began at `first`.
-    fn define<S: Source>(
-        &mut self,
-        alloc: Global,
-        reader: &mut BitReader<S>,
-        limits: &Limits,
-        first: u64,
-    ) -> Result<Step, Fault>
-        requires live { reader.old.live ≡ true }
-        requires some { 0 < vec_len self.old.frames }
-        ensures takes { (list : List ℕ) → InBlock self.old (λ f outer. Takes
-            (define_rule limits.now.shapes f outer first (handed_shown self.old))
-            reader.old (told_by (after_step self.new list) result) reader.new) }
-        ensures leaves { (deepest : ℕ) (list : List ℕ) → IfOk result
-            (λ step. LeavesMachine deepest self.old reader.old (step_shown self.new list step)
-            self.new reader.new) }
-        ensures fewer { OnErr result (vec_len self.new.frames ≤ vec_len self.old.frames) }
-    {
-        let Some(frame) = self.frames.last_mut() else {
-            unreachable!();
-        };
-        let after = define(alloc, reader, limits.shapes(), frame, self.planned, first)?;
-        Ok(Step::Define { first, after })
-    }
-
     /// How many more values the limit allows.
     #[inline(always)]
-    pub(crate) fn room(&self, limits: &Limits) -> u64
-        ensures room { result ≡ limits.now.values - self.now.used }
-        ensures capped { limits.now.values ≤ 4294967295 }
-        ensures used { self.now.used < 2 ^ 64 }
-    {
-        limits.values().saturating_sub(self.used)
+    pub(crate) fn room(&self) -> u64 {
+        self.limits.values().saturating_sub(self.used)
     }
 
-    /// Reads a record in the innermost block, after its id, which began at `first`, and returns its code and the bit after it.
-    pub(crate) fn note<S: Source, V: ValueTaker>(
+    /// Reads a record in the innermost block, after its id.
+    fn note<S: Source, V: ValueTaker>(
         &mut self,
         reader: &mut BitReader<S>,
-        limits: &Limits,
-        id: u32,
-        first: u64,
+        begun: Begun,
         values: &mut WithFirst<V>,
-    ) -> Result<(u64, u64), Fault>
-        requires live { reader.old.live ≡ true }
-        requires some { 0 < vec_len self.old.frames }
-        requires id { 3 ≤ id }
-        requires took { TookSome V.took values.old.taker }
-        ensures takes { Has V.took values.new.taker (λ list. InBlock self.old (λ f outer.
-            Takes (record_rule limits.now.values f outer first id (handed_shown self.old))
-            reader.old
-            (told_by (λ read. (record_of id list first read, machine_shown self.new)) result)
-            reader.new)) }
-        ensures leaves { (deepest : ℕ) (list : List ℕ)
-            → IfOk result (λ read. LeavesMachine deepest self.old reader.old
-            (record_of id list first read) self.new reader.new) }
-        ensures fewer { OnErr result (vec_len self.new.frames ≤ vec_len self.old.frames) }
-    {
-        let room = self.room(limits);
+    ) -> Result<RecordHead, Fault> {
+        let room = self.room();
         values.clear();
+        let definitions = self.definitions.in_force(self.marks());
+        let code = read_record(reader, &definitions, begun, room, values)?;
+        let after = reader.position();
         let Some(frame) = self.frames.last_mut() else {
             unreachable!();
         };
-        let (code, after) = record_after(reader, frame, room, values, id, first)?;
-        let count = values.taker.count();
-        self.used += count;
-        Ok((code, after))
-    }
-
-    /// Like `note`, but reads a completely buffered record from the buffer, unless it is in a BLOCKINFO block.
-    fn record_from_buffer<S: Source, V: ValueTaker>(
-        &mut self,
-        reader: &mut BitReader<S>,
-        limits: &Limits,
-        id: u32,
-        first: u64,
-        values: &mut WithFirst<V>,
-    ) -> Result<(u64, u64), Fault>
-        requires live { reader.old.live ≡ true }
-        requires some { 0 < vec_len self.old.frames }
-        requires id { 3 ≤ id }
-        requires took { TookSome V.took values.old.taker }
-        ensures takes { Has V.took values.new.taker (λ list. InBlock self.old (λ f outer.
-            Takes (record_rule limits.now.values f outer first id (handed_shown self.old))
-            reader.old (told_by (λ read. (record_of id list first read, machine_shown self.new)) result) reader.new)) }
-        ensures leaves { (deepest : ℕ) (list : List ℕ)
-            → IfOk result (λ read. LeavesMachine deepest self.old reader.old (record_of id list first read) self.new reader.new) }
-        ensures fewer { OnErr result (vec_len self.new.frames ≤ vec_len self.old.frames) }
-    {
-        let Some(frame) = self.frames.last() else {
-            unreachable!();
-        };
-        if frame.info.is_some() {
-            return self.note(reader, limits, id, first, values);
+        if !frame.is_plain() {
+            if let Err(reason) = frame.describe(code, values.first) {
+                reader.judge(false, reason, begun.first)?;
+            }
         }
-        let room = self.room(limits);
-        values.taker.truncate(0);
-        let buffered = Buffered::new(reader.buffered_parts()?);
-        let start = buffered.position();
-        let taker = &mut values.taker;
-        let Some((code, after)) = buffered_record(
-            buffered,
-            &frame.definitions,
-            room,
-            id,
-            first,
-            taker,
-        ) else {
-            return self.note(reader, limits, id, first, values);
-        };
-        let count = values.taker.count();
-        self.used += count;
-        reader.catch_up(after - start)?;
-        Ok((code, after))
-    }
-
-    /// Reads the next event from the buffer, if it is a completely buffered record and in no BLOCKINFO block, and returns it
-    /// without its values. These come after the earlier values; if it returns `None`, some may have been added.
-    #[inline(always)]
-    pub(crate) fn buffered_step<V: ValueTaker>(
-        &mut self,
-        limits: &Limits,
-        buffered: &mut Buffered<'_>,
-        values: &mut V,
-    ) -> Option<RecordHead>
-        requires took { TookSome V.took values.old }
-        ensures reads { IfSome result (λ read. Gains V.took values.old values.new
-            (AddsBehind (λ list. Reads (step limits.now (machine_shown self.old)) buffered.old
-            (record_of read.«abbrev» list read.first (read.code, read.after), machine_shown self.new)
-            buffered.new))) }
-        ensures open { OnSome result (0 < vec_len self.old.frames) }
-        ensures frames { self.new.frames ≡ self.old.frames }
-        ensures stays { IfNone result (self.new ≡ self.old) }
-        ensures keeps { Keeps V.took values.old values.new }
-        ensures moves { OnSome result (buffered.old.position < buffered.new.position) }
-        ensures below { OnSome result (buffered.new.position < 2 ^ 64) }
-    {
-        let Some(frame) = self.frames.last() else {
-            return None;
-        };
-        let before = values.count();
-        if frame.info.is_some() || before > MOST_BEFORE {
-            return None;
-        }
-        let room = self.room(limits);
-        let first = buffered.position();
-        let (abbrev, code) = buffered_item::<V, V>(buffered, frame, room, values)?;
-        let after = buffered.position();
-        self.used += values.count() - before;
-        Some(RecordHead {
-            abbrev,
+        self.used += values.taker.count();
+        Ok(RecordHead {
+            abbrev: begun.id as u32,
             code,
-            first,
+            first: begun.first,
             after,
         })
     }
 
-    /// Reads an item other than a record in the innermost block, after its id, which began at `first`: the end of the block, a
-    /// block or a definition. It is kept out of the path of records, which are far more frequent.
-    #[cold]
-    #[inline(never)]
-    #[tactic(auto, using(crate::proofs::Stepping::after_end, crate::proofs::Stepping::after_nested, crate::proofs::Stepping::after_define))]
-    pub(crate) fn step_apart<S: Source>(
-        &mut self,
-        alloc: Global,
-        reader: &mut BitReader<S>,
-        limits: &Limits,
-        id: u64,
-        first: u64,
-    ) -> Result<Step, Fault>
-        requires live { reader.old.live ≡ true }
-        requires some { 0 < vec_len self.old.frames }
-        requires id { id < 3 }
-        ensures takes { (list : List ℕ) → InBlock self.old (λ f outer. Takes
-            (step_after limits.now f.head outer first (scope_of f (handed_shown self.old)) id)
-            reader.old (told_by (after_step self.new list) result) reader.new) }
-        ensures leaves { (list : List ℕ) → IfOk result (λ step. LeavesMachine limits.now.depth
-            self.old reader.old (step_shown self.new list step) self.new reader.new) }
-        ensures fewer { OnErr result (vec_len self.new.frames ≤ vec_len self.old.frames) }
-    {
-        if id == 0 {
-            return self.end_block(alloc, reader);
-        }
-        if id == 1 {
-            return self.open_nested(alloc, reader, limits, first);
-        }
-        self.define(alloc, reader, limits, first)
-    }
-
-    /// Reads one item of the innermost block, or its end.
-    fn step_in<S: Source, V: ValueTaker>(
-        &mut self,
-        alloc: Global,
-        reader: &mut BitReader<S>,
-        limits: &Limits,
-        head: BlockHead,
-        values: &mut WithFirst<V>,
-    ) -> Result<Step, Fault>
-        requires some { 0 < vec_len self.old.frames }
-        requires took { TookSome V.took values.old.taker }
-        ensures takes { Has V.took values.new.taker (λ list. InBlock self.old (λ f outer.
-            f.head ≡ head_shown head
-            → Takes (step_in limits.now f.head outer (scope_of f (handed_shown self.old)))
-            reader.old (told_by (after_step self.new list) result) reader.new)) }
-        ensures leaves { (list : List ℕ) → IfOk result (λ step. LeavesMachine limits.now.depth
-            self.old reader.old (step_shown self.new list step) self.new reader.new) }
-        ensures keeps { IfOk result (λ step. KeepsValues step values.old.taker values.new.taker) }
-        ensures moves { OnOk result (reader.old.position < reader.new.position) }
-        ensures fewer { OnErr result (vec_len self.new.frames ≤ vec_len self.old.frames) }
-    {
-        let first = reader.position();
-        let id = reader.fixed(u32::from(head.width))?;
-        if id < 3 {
-            return self.step_apart(alloc, reader, limits, id, first);
-        }
-        let abbrev = id as u32;
-        let (code, after) = self.record_from_buffer(reader, limits, abbrev, first, values)?;
-        Ok(Step::Record(RecordHead {
-            abbrev,
-            code,
-            first,
-            after,
-        }))
-    }
-
-    /// Reads the beginning of a block at the top.
-    #[cold]
-    #[inline(never)]
-    pub(crate) fn step_top<S: Source>(
-        &mut self,
-        alloc: Global,
-        reader: &mut BitReader<S>,
-        limits: &Limits,
-    ) -> Result<Step, Fault>
-        requires { vec_len self.old.frames ≡ 0 }
-        ensures takes { (list : List ℕ) → Takes (step_top limits.now (handed_shown self.old))
-            reader.old (told_by (after_step self.new list) result) reader.new }
-        ensures leaves { (list : List ℕ) → IfOk result (λ step. LeavesMachine limits.now.depth
-            self.old reader.old (step_shown self.new list step) self.new reader.new) }
-        ensures moves { OnOk result (reader.old.position < reader.new.position) }
-        ensures fewer { OnErr result (vec_len self.new.frames ≤ vec_len self.old.frames) }
-    {
-        let first = reader.position();
-        let id = reader.fixed(2)?;
-        reader.judge(id == 1, Reason::TopLevel, first)?;
-        self.open_block(alloc, reader, limits, first)
-    }
-
-    /// The head of the innermost block.
-    #[tactic(auto, using(crate::proofs::Stepping::head_held))]
-    pub(crate) fn innermost(&self) -> Option<BlockHead>
-        ensures head { option_map head_shown result
-            ≡ innermost_head (frames_shown self.now.frames.items) }
-        ensures open { IfSome result (λ _. 0 < vec_len self.now.frames) }
-        ensures none { IfNone result (vec_len self.now.frames ≡ 0) }
-    {
-        match self.frames.last() {
-            Some(frame) => Some(frame.head),
-            None => None,
-        }
+    /// Reads a definition, after its id, which began at `first`. It is then the newest one.
+    fn define<S: Source>(&mut self, reader: &mut BitReader<S>, first: u64) -> Result<Step, Fault> {
+        let Some(frame) = self.frames.last() else {
+            unreachable!();
+        };
+        reader.judge(frame.may_define(), Reason::NoBlockSet, first)?;
+        let shapes = self.limits.shapes();
+        self.definitions.read(reader, shapes, frame.described())?;
+        let after = reader.position();
+        Ok(Step::Define { first, after })
     }
 
     /// Takes one step: reads one item of the innermost block or its end, or a block's beginning at the top. After a record `values`
     /// has its values; another step leaves `values` as it is.
     fn step<S: Source, V: ValueTaker>(
         &mut self,
-        alloc: Global,
         reader: &mut BitReader<S>,
-        limits: &Limits,
         values: &mut WithFirst<V>,
-    ) -> Result<Step, Fault>
-        requires took { TookSome V.took values.old.taker }
-        ensures takes { Has V.took values.new.taker (λ list. Takes
-            (step limits.now (machine_shown self.old)) reader.old
-            (told_by (after_step self.new list) result) reader.new) }
-        ensures leaves { (list : List ℕ) → IfOk result (λ step. LeavesMachine limits.now.depth
-            self.old reader.old (step_shown self.new list step) self.new reader.new) }
-        ensures keeps { IfOk result (λ step. KeepsValues step values.old.taker values.new.taker) }
-        ensures moves { OnOk result (reader.old.position < reader.new.position) }
-        ensures fewer { OnErr result (vec_len self.new.frames ≤ vec_len self.old.frames) }
-    {
-        match self.innermost() {
-            Some(head) => self.step_in(alloc, reader, limits, head, values),
-            None => self.step_top(alloc, reader, limits),
+    ) -> Result<Step, Fault> {
+        let first = reader.position();
+        let id = reader.fixed(self.id_width())?;
+        if self.is_outside() {
+            reader.judge(id == 1, Reason::TopLevel, first)?;
+        }
+        match id {
+            0 => self.end_block(reader),
+            1 => {
+                reader.judge(self.is_plain(), Reason::NestedInBlockInfo, first)?;
+                self.open_block(reader, first)
+            }
+            2 => self.define(reader, first),
+            id => Ok(Step::Record(self.note(reader, Begun { id, first }, values)?)),
         }
     }
 
-    /// Finds the next event, or `None` if the whole input is accepted. All ways over events go on by this call where the buffered bits do not suffice. After a record
-    /// `values` has its values; another event leaves `values` as it is.
-    pub(crate) fn next<S: Source, V: ValueTaker>(
+    /// Finds the next event, or `None` if the whole input is accepted, by the reader itself. After a record `values` has its values;
+    /// another event leaves `values` as it is.
+    pub(crate) fn next_exact<S: Source, V: ValueTaker>(
         &mut self,
-        alloc: Global,
         reader: &mut BitReader<S>,
-        limits: &Limits,
         values: &mut WithFirst<V>,
-    ) -> Result<Option<Step>, Fault>
-        requires live { reader.old.live ≡ true }
-        requires aligned { vec_len self.old.frames ≡ 0 → reader.old.position % 8 ≡ 0 }
-        requires took { TookSome V.took values.old.taker }
-        ensures finds { Has V.took values.new.taker (λ list. FindsNext limits.now self.old
-            reader.old list result self.new reader.new) }
-        ensures keeps { IfOk result (λ found. IfSome found (λ step. KeepsValues step
-            values.old.taker values.new.taker)) }
-        ensures fewer { OnErr result (vec_len self.new.frames ≤ vec_len self.old.frames) }
-    {
+    ) -> Result<Option<Step>, Fault> {
         let outside = self.is_outside();
         if shuts(reader, outside)? {
             return Ok(None);
         }
-        let step = self.step(alloc, reader, limits, values)?;
+        let step = self.step(reader, values)?;
         Ok(Some(step))
+    }
+
+    /// The same: in place, if all of the event is there.
+    pub(crate) fn next<S: Source, V: ValueTaker>(
+        &mut self,
+        reader: &mut BitReader<S>,
+        values: &mut WithFirst<V>,
+    ) -> Result<Option<Step>, Fault> {
+        let bits = reader.bits();
+        let first = bits.position();
+        match self.placed_next(bits, values) {
+            Ok(Some(step)) => {
+                reader.catch_up(step.after() - first);
+                Ok(Some(step))
+            }
+            Ok(None) => self.next_exact(reader, values),
+            Err(_) => Err(reader.fail(Fault::Memory)),
+        }
     }
 
     /// Whether no block is open.
@@ -696,5 +468,11 @@ impl Machine {
         ensures { IsTrue result ↔ (vec_len self.now.frames ≡ 0) }
     {
         self.frames.is_empty()
+    }
+
+    /// The operands of the last definition that the innermost block made, if there is one.
+    #[inline(always)]
+    pub(crate) fn newest(&self) -> Option<HeldOps<'_>> {
+        self.definitions.newest(!self.is_plain())
     }
 }

@@ -37,7 +37,7 @@ two_parts payload low x false below is =
     let e : x ≡ low = omega (arith, is) in
     (ap (λ (y : ℕ). y % 2 ^ payload) e ∙ mod-eq_of_lt below, lt-leb (2 ^ payload) x (omega (arith, e)))
 
-chunk_parts : (payload : ℕ) (s : List Bool) → length s ≡ suc payload → (number s % 2 ^ payload ≡ number (take payload s)) × (leb (2 ^ payload) (number s) ≡ get_or s payload false)
+pub chunk_parts : (payload : ℕ) (s : List Bool) → length s ≡ suc payload → (number s % 2 ^ payload ≡ number (take payload s)) × (leb (2 ^ payload) (number s) ≡ get_or s payload false)
 chunk_parts payload s len =
     let low : List Bool = take payload s in
     let top : Bool = get_or s payload false in

@@ -1,14 +1,13 @@
--- The state after loading bytes.
-use Rattle.std.proofs.Common.{◌≡◌, ℕ, zero, suc, ◌+◌, ◌*◌, ◌-◌, ◌<◌, ◌≤◌, Bool, true, false, ltb, List, [], ◌++◌, length, take, Option, Some, None, refl, sym, ap, ◌∙◌, subst, arith, append_assoc}
-use Rattle.std.specs.Prelude.{IsSome}
+-- The state after asking the source for bytes.
+use Rattle.std.proofs.Common.{◌≡◌, ℕ, ◌+◌, ◌*◌, ◌-◌, ◌^◌, ◌<◌, ◌≤◌, ◌⊎◌, max, min, Bool, true, false, cond, leb, List, [], ◌++◌, length, take, drop, Option, Some, None, refl, sym, ap, ◌∙◌, subst, arith, inl, inr}
+use Rattle.std.specs.Prelude.{IsSome, is_some}
 use Rattle.std.specs.Io.KnownBytes as bytes
-use Rattle.std.proofs.lemmas.Bool.{false≢true, le-ltb, lt-ltb, and_right, and_left, and_from}
-use Rattle.std.proofs.lemmas.List.{append-nil, length-append, length-take-le}
-use Rattle.std.proofs.Math.Seq.{take-append-add}
-use Rattle.bit_grammar.specs.Bits.{bits_of, bits_of_bytes}
-use Rattle.bit_grammar.proofs.Bits.Numbers.{length-bits_of}
-use Rattle.bit_fields.specs.Devices.{Incoming, Gave, GaveWord, Spends, Fails, known_bytes}
-use Rattle.bit_fields.specs.Inflow.{Flow, IsKnown, stop_of, flow_bits, total_of, is_flow_cut, budget_of, IsFlow, SamePlace, KeepsFlow, NoMore}
+use Rattle.std.proofs.lemmas.Bool.{false≢true, le-leb, lt-leb, cases_lt}
+use Rattle.std.proofs.lemmas.List.{length-append, length-take, length-take-le, length-drop}
+use Rattle.std.proofs.Math.Seq.{take-append-add, drop-append-add}
+use Rattle.bit_grammar.specs.Bits.{bits_of_bytes}
+use Rattle.bit_fields.specs.Devices.{Incoming, Gave, GaveNone, Looked, Spends, Fails, IsWorn, known_bytes}
+use Rattle.bit_fields.specs.Inflow.{Flow, lending, IsKnown, stop_of, place_of, taken_of, flow_bits, total_of, budget_of, IsFlow, KeepsFlow, LooksOn}
 use Rattle.bit_fields.proofs.BitLaws.{bits_of_bytes-append, length-bits_of_bytes}
 
 -- ---- what is paid
@@ -70,58 +69,6 @@ gave_spends i j count into before after gave paid one =
       accounts = gave.accounts;
     }
 
--- ---- once
-
-none_taken : (k : ℕ) (bytes : List ℕ) → k ≡ 0 → bits_of_bytes (take k bytes) ≡ []
-none_taken k bytes e = rw e refl
-
-none_there : (k : ℕ) (bytes : List ℕ) → bytes ≡ [] → bits_of_bytes (take k bytes) ≡ []
-none_there zero bytes e = refl
-none_there (suc k) bytes e = rw e refl
-
-pub SamePlace-refl : (f : Flow) → SamePlace f f
-SamePlace-refl f = record { loaded = omega arith; exact = refl }
-
-pub Keeps-refl : (f : Flow) → KeepsFlow f f
-Keeps-refl f = record { end = refl; limit = refl; place = SamePlace-refl f; spends = Spends-refl f.incoming (budget_of f); left = λ k. refl; total = λ k. refl }
-
-pub nothing_left : (f : Flow) → stop_of f ≤ f.loaded → flow_bits f ≡ f.window
-nothing_left f at = ap (λ (s : List Bool). f.window ++ s) (none_taken (stop_of f - f.loaded) (known_bytes f.incoming.to_come) (omega arith)) ∙ append-nil f.window
-
--- a wrapper ends the stream within the limit
-pub stops_at_end : (f : Flow) → stop_of f ≤ f.loaded → f.end ≤ f.limit → NoMore f f false
-stops_at_end f at le = record {
-  keeps = Keeps-refl f;
-  window = refl;
-  left = λ k. nothing_left f at;
-  cut = λ k. and_right (ltb f.limit (total_of f)) (ltb f.limit f.end) (le-ltb f.limit f.end le);
-  left_now = nothing_left f at;
-  cut_now = and_right (ltb f.limit (total_of f)) (ltb f.limit f.end) (le-ltb f.limit f.end le);
-}
-
--- it is known that the input is longer
-pub stops_at_limit : (f : Flow) → stop_of f ≤ f.loaded → f.limit < f.end → f.limit < f.loaded → NoMore f f true
-stops_at_limit f at lt over =
-    let cut : is_flow_cut f ≡ true = and_from (ltb f.limit (total_of f)) (ltb f.limit f.end) (lt-ltb f.limit (total_of f) (omega arith)) (lt-ltb f.limit f.end lt) in
-    record {
-      keeps = Keeps-refl f;
-      window = refl;
-      left = λ k. nothing_left f at;
-      cut = λ k. cut;
-      left_now = nothing_left f at;
-      cut_now = cut;
-    }
-
--- the source was at its end before
-pub stops_again : (f : Flow) → IsFlow f → f.ended ≡ true → NoMore f f false
-stops_again f is e =
-    let end = is.ended e in
-    let none : known_bytes f.incoming.to_come ≡ [] = at_end f.incoming.to_come end.0 in
-    let few : length (known_bytes f.incoming.to_come) ≡ 0 = ap length none in
-    let left : flow_bits f ≡ f.window = ap (λ (s : List Bool). f.window ++ s) (none_there (stop_of f - f.loaded) (known_bytes f.incoming.to_come) none) ∙ append-nil f.window in
-    let cut : is_flow_cut f ≡ false = and_left (ltb f.limit (total_of f)) (ltb f.limit f.end) (le-ltb f.limit (total_of f) (omega (arith, end.1, few))) in
-    record { keeps = Keeps-refl f; window = refl; left = λ k. left; cut = λ k. cut; left_now = left; cut_now = cut }
-
 none_given : (old new : Incoming) (count : ℕ) (into : List ℕ) → count ≡ 0 → Gave old new count into → Gave old new 0 into
 none_given old new count into e gave = subst (λ (n : ℕ). Gave old new n into) e gave
 
@@ -132,100 +79,172 @@ ends_so i j count into zero_given given room =
     let none : known_bytes j.to_come ≡ [] = at_end j.to_come (gave.end refl room) in
     (none, λ k. (consumed i.to_come j.to_come [] gave.bytes k).1 ∙ none)
 
--- the source returns now that it is at its end
-pub ends_here : (f : Flow) (i : Incoming) (count : ℕ) (into : List ℕ) → f.ended ≡ false → f.loaded ≤ f.limit → count ≡ 0 → Gave f.incoming i count into → 0 < length into → NoMore f (record f { incoming = i; ended = true }) false
-ends_here f i count into going le zero_given given room =
-    let so = ends_so f.incoming i count into zero_given given room in
-    let none : known_bytes i.to_come ≡ [] = so.0 in
-    let before : IsKnown f → known_bytes f.incoming.to_come ≡ [] = so.1 in
-    let after : Flow = record f { incoming = i; ended = true } in
-    let left_before : IsKnown f → flow_bits f ≡ f.window = λ k. ap (λ (s : List Bool). f.window ++ s) (none_there (stop_of f - f.loaded) (known_bytes f.incoming.to_come) (before k)) ∙ append-nil f.window in
-    let left_after : flow_bits after ≡ f.window = ap (λ (s : List Bool). f.window ++ s) (none_there (stop_of f - f.loaded) (known_bytes i.to_come) none) ∙ append-nil f.window in
-    record {
-      keeps = record {
-        end = refl;
-        limit = refl;
-        place = record { loaded = omega arith; exact = omega arith };
-        spends = rw going (gave_spends f.incoming i count into (f.limit + 1 - f.loaded) 0 given (omega arith) (omega arith));
-        left = λ k. left_after ∙ sym (left_before k);
-        total = λ k. omega (arith, ap length none, ap length (before k));
-      };
-      window = refl;
-      left = left_before;
-      cut = λ k. and_left (ltb f.limit (total_of f)) (ltb f.limit f.end) (le-ltb f.limit (total_of f) (omega (arith, le, ap length (before k))));
-      left_now = left_after;
-      cut_now = and_left (ltb f.limit (total_of after)) (ltb f.limit f.end) (le-ltb f.limit (total_of after) (omega (arith, le, ap length none)));
-    }
-
 -- the bytes given were the next ones
 pub came : (i j : Incoming) (count : ℕ) (into : List ℕ) → Gave i j count into → IsSome i.to_come → (known_bytes i.to_come ≡ take count into ++ known_bytes j.to_come) × (length (known_bytes i.to_come) ≡ count + length (known_bytes j.to_come))
 came i j count into gave k =
     let all = (consumed i.to_come j.to_come (take count into) gave.bytes k).1 in
     (all, omega (arith, ap length all, length-append (take count into) (known_bytes j.to_come), length-take-le count into gave.fits))
 
--- a byte past the limit shows that the input is longer
-pub goes_past : (f : Flow) (i : Incoming) (count : ℕ) (into : List ℕ) → f.ended ≡ false → stop_of f ≤ f.loaded → f.loaded ≤ f.limit → f.limit < f.end → (count ≡ 0 → ⊥) → length into ≡ 1 → Gave f.incoming i count into → NoMore f (record f { incoming = i; loaded = f.loaded + 1 }) true
-goes_past f i count into going at le lt some len gave =
-    let one : count ≡ 1 = omega (arith, gave.fits) in
-    let after : Flow = record f { incoming = i; loaded = f.loaded + 1 } in
-    let fewer : IsKnown f → length (known_bytes f.incoming.to_come) ≡ 1 + length (known_bytes i.to_come) = λ k. omega (arith, (came f.incoming i count into gave k).1) in
-    record {
-      keeps = record {
-        end = refl;
-        limit = refl;
-        place = record { loaded = omega arith; exact = omega arith };
-        spends = rw going (gave_spends f.incoming i count into (f.limit + 1 - f.loaded) (f.limit + 1 - (f.loaded + 1)) gave (omega arith) (omega arith));
-        left = λ k. nothing_left after (omega arith) ∙ sym (nothing_left f at);
-        total = λ k. omega (arith, fewer k);
-      };
-      window = refl;
-      left = λ k. nothing_left f at;
-      cut = λ k. and_from (ltb f.limit (total_of f)) (ltb f.limit f.end) (lt-ltb f.limit (total_of f) (omega (arith, fewer k))) (lt-ltb f.limit f.end lt);
-      left_now = nothing_left after (omega arith);
-      cut_now = and_from (ltb f.limit (total_of after)) (ltb f.limit f.end) (lt-ltb f.limit (total_of after) (omega arith)) (lt-ltb f.limit f.end lt);
+-- ---- a source whose next bytes were lent
+
+pub lending_all : (lent : ℕ) (i : Incoming) → lent ≤ length (known_bytes i.to_come) → lending lent i ≡ i
+lending_all lent i le = ap (λ (b : Bool). record i { to_come = cond b i.to_come None }) (le-leb lent (length (known_bytes i.to_come)) le)
+
+-- its bytes are known, and it has as many
+pub lent_known : (lent : ℕ) (i : Incoming) → IsSome (lending lent i).to_come → IsSome i.to_come × (lent ≤ length (known_bytes i.to_come))
+lent_known lent i known = elim (cases_lt (length (known_bytes i.to_come)) lent) [
+  | inl lt ↦ absurd (false≢true (sym (ap (λ (b : Bool). is_some (cond b i.to_come None)) (lt-leb lent (length (known_bytes i.to_come)) lt)) ∙ known))
+  | inr le ↦ (subst (λ (x : Incoming). IsSome x.to_come) (lending_all lent i le) known, le)
+]
+
+pub lent_bytes : (lent : ℕ) (i : Incoming) → IsSome (lending lent i).to_come → known_bytes (lending lent i).to_come ≡ known_bytes i.to_come
+lent_bytes lent i known = ap (λ (x : Incoming). known_bytes x.to_come) (lending_all lent i (lent_known lent i known).1)
+
+pub lent_at_end : (lent : ℕ) (i : Incoming) → bytes.IsAtEnd i.to_come → bytes.IsAtEnd (lending lent i).to_come
+lent_at_end lent i end = cases (leb lent (length (known_bytes i.to_come)))
+  where
+    cases : (b : Bool) → bytes.IsAtEnd (cond b i.to_come None)
+    cases true = end
+    cases false = tt
+
+-- the lent bytes are there after a call as before it
+abbrev pub StillLent : (l m : ℕ) (i j : Incoming) → Type 0
+StillLent l m i j = IsSome i.to_come → l ≤ length (known_bytes i.to_come) → m ≤ length (known_bytes j.to_come)
+
+pub lent_tells : (l m : ℕ) (i j : Incoming) → (IsSome i.to_come → IsSome j.to_come) → StillLent l m i j → IsSome (lending l i).to_come → IsSome (lending m j).to_come
+lent_tells l m i j tells still k =
+    let was = lent_known l i k in
+    subst (λ (x : Incoming). IsSome x.to_come) (sym (lending_all m j (still was.0 was.1))) (tells was.0)
+
+pub lent_after : (l m : ℕ) (i j : Incoming) → StillLent l m i j → IsSome (lending l i).to_come → known_bytes (lending m j).to_come ≡ known_bytes j.to_come
+lent_after l m i j still k =
+    let was = lent_known l i k in
+    ap (λ (x : Incoming). known_bytes x.to_come) (lending_all m j (still was.0 was.1))
+
+pub spends_lent : (i j : Incoming) (l m before after : ℕ) → Spends i before j after → StillLent l m i j → Spends (lending l i) before (lending m j) after
+spends_lent i j l m before after p still = record {
+  pulls = p.pulls;
+  failures = p.failures;
+  tells = lent_tells l m i j p.tells still;
+  bytes = λ k. omega (arith, p.bytes (lent_known l i k).0, ap length (lent_bytes l i k), ap length (lent_after l m i j still k));
+  accounts = p.accounts;
+}
+
+pub fails_lent : (i j : Incoming) (l m before after : ℕ) → Fails i before j after → StillLent l m i j → Fails (lending l i) before (lending m j) after
+fails_lent i j l m before after p still = record {
+  pulls = p.pulls;
+  failed = p.failed;
+  tells = lent_tells l m i j p.tells still;
+  bytes = λ k. omega (arith, p.bytes (lent_known l i k).0, ap length (lent_bytes l i k), ap length (lent_after l m i j still k));
+  accounts = p.accounts;
+}
+
+-- ---- a source that is looked at, or fails
+
+pub looked_still : (l : ℕ) (i j : Incoming) → bytes.Keeps i.to_come j.to_come → StillLent l l i j
+looked_still l i j keeps k le = omega (arith, le, ap length (kept i.to_come j.to_come keeps k).1)
+
+lent_keeps : (l : ℕ) (a b : Option (List ℕ)) → bytes.Keeps a b → bytes.Keeps (cond (leb l (length (known_bytes a))) a None) (cond (leb l (length (known_bytes b))) b None)
+lent_keeps l None b keeps = none (leb l 0)
+  where
+    none : (x : Bool) → bytes.Keeps (cond x None None) (cond (leb l (length (known_bytes b))) b None)
+    none true = tt
+    none false = tt
+lent_keeps l (Some xs) None keeps = absurd keeps
+lent_keeps l (Some xs) (Some ys) keeps = subst (λ (zs : List ℕ). bytes.Keeps (cond (leb l (length xs)) (Some xs) None) (cond (leb l (length zs)) (Some zs) None)) (sym keeps) (same (leb l (length xs)))
+  where
+    same : (x : Bool) → bytes.Keeps (cond x (Some xs) None) (cond x (Some xs) None)
+    same true = refl
+    same false = tt
+
+pub looked_lent : (l : ℕ) (i j : Incoming) → Looked i j → Looked (lending l i) (lending l j)
+looked_lent l i j looked = record {
+  bytes = lent_keeps l i.to_come j.to_come looked.bytes;
+  pulls = looked.pulls;
+  failures = looked.failures;
+  worn = λ worn. ap (lending l) (looked.worn worn);
+  accounts = looked.accounts;
+}
+
+pub looked_spends : (i j : Incoming) (n : ℕ) → Looked i j → Spends i n j n
+looked_spends i j n looked = record {
+  pulls = omega (arith, looked.pulls);
+  failures = looked.failures;
+  tells = λ k. (kept i.to_come j.to_come looked.bytes k).0;
+  bytes = λ k. omega (arith, ap length (kept i.to_come j.to_come looked.bytes k).1);
+  accounts = looked.accounts;
+}
+
+-- a call that gave nothing is paid for
+pub none_fails : (i j : Incoming) (before : ℕ) → GaveNone i j → 1 ≤ before → Fails i before j 0
+none_fails i j before none some = elim (cases_lt (max i.pulls i.failures) (2 ^ 64 - 1)) [
+  | inl fresh ↦ (let c = none.counted fresh in of (omega (arith, c.0, some)) (inl c.1))
+  | inr worn ↦ (let same : j ≡ i = none.worn worn in of (omega (arith, ap (λ (x : Incoming). x.pulls) same)) (inr (ap (λ (x : Incoming). x.failures) same, subst IsWorn (sym same) worn)))
+]
+  where
+    of : j.pulls + 0 ≤ i.pulls + before → (j.failures ≡ i.failures + 1) ⊎ ((j.failures ≡ i.failures) × IsWorn j) → Fails i before j 0
+    of pulls failed = record {
+      pulls = pulls;
+      failed = failed;
+      tells = λ k. (kept i.to_come j.to_come none.bytes k).0;
+      bytes = λ k. omega (arith, ap length (kept i.to_come j.to_come none.bytes k).1);
+      accounts = none.accounts;
     }
 
--- the first of the bytes to come, and those left
-pub front_came : (i j : Incoming) (count : ℕ) (into : List ℕ) (room : ℕ) → Gave i j count into → IsSome i.to_come → bits_of_bytes (take (count + room) (known_bytes i.to_come)) ≡ bits_of_bytes (take count into) ++ bits_of_bytes (take room (known_bytes j.to_come))
-front_came i j count into room gave k =
-    let taken : length (take count into) ≡ count = length-take-le count into gave.fits in
-    let split : take (count + room) (known_bytes i.to_come) ≡ take count into ++ take room (known_bytes j.to_come) = ap (λ (n : ℕ). take (n + room) (known_bytes i.to_come)) (sym taken) ∙ ap (λ (b : List ℕ). take (length (take count into) + room) b) (came i j count into gave k).0 ∙ take-append-add (take count into) (known_bytes j.to_come) room in
-    ap bits_of_bytes split ∙ bits_of_bytes-append (take count into) (take room (known_bytes j.to_come))
+-- ---- unread bits
 
--- bytes were loaded into the window
-pub bytes_came : (f : Flow) (i : Incoming) (count : ℕ) (into : List ℕ) → f.ended ≡ false → f.loaded + count ≤ stop_of f → 0 < count → Gave f.incoming i count into
-    → KeepsFlow f (record f { window = f.window ++ bits_of_bytes (take count into); incoming = i; loaded = f.loaded + count })
-bytes_came f i count into going le some gave =
-    let taken : length (take count into) ≡ count = length-take-le count into gave.fits in
-    let len : length (f.window ++ bits_of_bytes (take count into)) ≡ length f.window + 8 * count = omega (arith, length-append f.window (bits_of_bytes (take count into)), length-bits_of_bytes (take count into), taken) in
-    let room : stop_of f - f.loaded ≡ count + (stop_of f - (f.loaded + count)) = omega arith in
+-- bytes before the place are no matter
+pub drop_front : (t more : List ℕ) (room at : ℕ) → length t ≤ room → 8 * length t ≤ at → drop at (bits_of_bytes (take room (t ++ more))) ≡ drop (at - 8 * length t) (bits_of_bytes (take (room - length t) more))
+drop_front t more room at few past =
+    let all : room ≡ length t + (room - length t) = omega (arith, few) in
+    let place : at ≡ length (bits_of_bytes t) + (at - 8 * length t) = omega (arith, past, length-bits_of_bytes t) in
+    let rest : List ℕ = take (room - length t) more in
+    ap (λ (n : ℕ). drop at (bits_of_bytes (take n (t ++ more)))) all ∙ ap (λ (xs : List ℕ). drop at (bits_of_bytes xs)) (take-append-add t more (room - length t))
+    ∙ ap (drop at) (bits_of_bytes-append t rest) ∙ ap (λ (n : ℕ). drop n (bits_of_bytes t ++ bits_of_bytes rest)) place ∙ drop-append-add (bits_of_bytes t) (bits_of_bytes rest) (at - 8 * length t)
+
+pub flow_length : (f : Flow) → length (flow_bits f) ≡ 8 * min (stop_of f - f.before) (length f.carry + length (known_bytes f.incoming.to_come)) - f.at
+flow_length f =
+    let all : List ℕ = f.carry ++ known_bytes f.incoming.to_come in
+    omega (arith, length-drop f.at (bits_of_bytes (take (stop_of f - f.before) all)), length-bits_of_bytes (take (stop_of f - f.before) all), length-take (stop_of f - f.before) all, length-append f.carry (known_bytes f.incoming.to_come))
+
+-- where the unread bits end
+pub left_ends : (f : Flow) → IsFlow f → IsKnown f → f.lent ≤ length (known_bytes f.incoming.to_come) → place_of f + length (flow_bits f) ≡ 8 * min (stop_of f) (total_of f)
+left_ends f is known lent = elim (cases_lt 0 f.over) [
+  | inl some ↦ omega (arith, flow_length f, is.within, is.place, (is.over some).0, (is.over some).1)
+  | inr none ↦ omega (arith, flow_length f, is.within, is.place, lent, none)
+]
+
+-- ---- what stays
+
+pub Keeps-refl : (f : Flow) → KeepsFlow f f
+Keeps-refl f = record { end = refl; limit = refl; place = refl; spends = Spends-refl f.incoming (budget_of f); left = λ k. refl; total = λ k. refl }
+
+pub Keeps-trans : (f g h : Flow) → KeepsFlow f g → KeepsFlow g h → KeepsFlow f h
+Keeps-trans f g h p q = record {
+  end = q.end ∙ p.end;
+  limit = q.limit ∙ p.limit;
+  place = q.place ∙ p.place;
+  spends = Spends-trans f.incoming (budget_of f) g.incoming (budget_of g) h.incoming (budget_of h) p.spends q.spends;
+  left = λ k. q.left (p.spends.tells k) ∙ p.left k;
+  total = λ k. q.total (p.spends.tells k) ∙ p.total k;
+}
+
+looks_keep : (f : Flow) (j : Incoming) → Looked f.incoming j → KeepsFlow f (record f { incoming = j })
+looks_keep f j looked =
+    let same : IsKnown f → known_bytes j.to_come ≡ known_bytes f.incoming.to_come = λ k. sym (kept f.incoming.to_come j.to_come looked.bytes k).1 in
     record {
       end = refl;
       limit = refl;
-      place = record { loaded = omega (arith, len); exact = omega (arith, len) };
-      spends = rw going (gave_spends f.incoming i count into (f.limit + 1 - f.loaded) (f.limit + 1 - (f.loaded + count)) gave (omega arith) (omega arith));
-      left = λ k. append_assoc f.window (bits_of_bytes (take count into)) (bits_of_bytes (take (stop_of f - (f.loaded + count)) (known_bytes i.to_come)))
-          ∙ ap (λ (s : List Bool). f.window ++ s) (sym (ap (λ (n : ℕ). bits_of_bytes (take n (known_bytes f.incoming.to_come))) room ∙ front_came f.incoming i count into (stop_of f - (f.loaded + count)) gave k));
-      total = λ k. omega (arith, (came f.incoming i count into gave k).1);
+      place = refl;
+      spends = looked_spends f.incoming j (budget_of f) looked;
+      left = λ k. ap (λ (b : List ℕ). drop f.at (bits_of_bytes (take (stop_of f - f.before) (f.carry ++ b)))) (same k);
+      total = λ k. ap (λ (b : List ℕ). taken_of f + length b) (same k);
     }
 
--- the same, as a word
-pub word_came : (f : Flow) (i : Incoming) (room word count : ℕ) (window : List Bool) → f.ended ≡ false → room ≤ stop_of f - f.loaded → f.loaded ≤ stop_of f → (count ≡ 0 → ⊥) → GaveWord f.incoming i room word count
-    → window ≡ f.window ++ bits_of (8 * count) word → KeepsFlow f (record f { window = window; incoming = i; loaded = f.loaded + count }) × (length f.window < length window)
-word_came f i room word count window going le fits some taken is =
-    let gave = taken.gave in
-    let w : window ≡ f.window ++ bits_of_bytes (take count taken.into) = is ∙ ap (λ (s : List Bool). f.window ++ s) taken.bits in
-    let positive : 0 < count = omega arith in
-    (rw w (bytes_came f i count taken.into going (omega (arith, gave.fits, taken.wide)) positive gave), omega (arith, ap length w, length-append f.window (bits_of_bytes (take count taken.into)), length-bits_of_bytes (take count taken.into), length-take-le count taken.into gave.fits))
+pub looks_on : (f g : Flow) → LooksOn f g → KeepsFlow f g
+looks_on f g looks = subst (KeepsFlow f) (sym looks.same) (looks_keep f g.incoming looks.looked)
 
-pub flow_after : (f : Flow) (i : Incoming) (room word count : ℕ) (window : List Bool) → IsFlow f → f.ended ≡ false → room ≤ stop_of f - f.loaded → f.loaded ≤ stop_of f → 8 * room + length f.window ≤ 64 → GaveWord f.incoming i room word count
-    → window ≡ f.window ++ bits_of (8 * count) word → IsFlow (record f { window = window; incoming = i; loaded = f.loaded + count })
-flow_after f i room word count window was going le fits free taken is =
-    let len : length window ≡ length f.window + 8 * count = omega (arith, ap length is, length-append f.window (bits_of (8 * count) word), length-bits_of (8 * count) word) in
-    record {
-      held = omega (arith, taken.gave.fits, taken.wide);
-      loaded = omega (arith, taken.gave.fits, taken.wide);
-      limit = was.limit;
-      place = omega (arith, was.place);
-      ended = λ e. absurd (false≢true (sym going ∙ e));
-    }
+-- ---- a new flow
+
+pub new_flow : (i : Incoming) (limit : ℕ) → ◌≡◌ {A = Flow} (record { carry = []; incoming = lending 0 i; lent = 0; at = 0; before = 0; over = 0; end = 18446744073709551615; limit = limit; ended = false }) (record { carry = []; incoming = i; lent = 0; at = 0; before = 0; over = 0; end = 18446744073709551615; limit = limit; ended = false })
+new_flow i limit = rw (lending_all 0 i (omega arith)) refl

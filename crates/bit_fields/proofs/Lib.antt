@@ -1,10 +1,12 @@
 pub mod BitLaws
 pub mod Words
 pub mod InflowLaws
+pub mod Asking
+pub mod Flowing
+pub mod HeldBits
+pub mod Showing
 pub mod Keeping
 pub mod Fronts
-pub mod Shortening
-pub mod Draining
 pub mod Composing
 pub mod Parts
 pub mod Chunks
@@ -19,8 +21,8 @@ pub mod Cutting
 pub mod Short
 pub mod BufferedReads
 pub mod LentParts
+pub mod Asked
 pub mod Texts
-pub mod Looking
 pub mod Unlike
 pub mod Standing
 pub mod Expecting
@@ -36,6 +38,7 @@ pub mod LongSixes
 pub mod SixSteps
 pub mod PlainRecords
 pub mod PlainPlaces
+pub mod PlacedFields
 pub mod PlacedNumbers
 pub mod LastChunks
 pub mod ByteTables

@@ -1,5 +1,5 @@
 -- Padding.
-use Rattle.std.proofs.Common.{◌≡◌, ℕ, zero, suc, ◌+◌, ◌-◌, ◌<◌, ◌≤◌, Bool, true, false, eqb, List, [], ◌∷◌, ◌++◌, length, take, drop, Result, Ok, Err, refl, sym, ◌∙◌, subst, arith, inl, inr}
+use Rattle.std.proofs.Common.{◌≡◌, ℕ, zero, suc, ◌+◌, ◌-◌, ◌<◌, ◌≤◌, Bool, true, false, eqb, List, [], ◌∷◌, ◌++◌, length, take, drop, Result, Ok, Err, refl, sym, ap, ◌∙◌, subst, arith, inl, inr}
 use Rattle.std.proofs.lemmas.Bool.{le-ltb, ne_eqb}
 use Rattle.std.proofs.lemmas.Bool.Decides.{eqb_tells}
 use Rattle.bit_grammar.specs.declared.reason.Reason.TheVariants.{DirtyPadding}
@@ -8,12 +8,14 @@ use Rattle.bit_grammar.specs.Grammar.{Fault as Break, Grammar, at, gives, positi
 use Rattle.bit_grammar.specs.Fields.{zeros, padding_length, align32}
 use Rattle.bit_fields.specs.declared.fault.Fault.{Fault}
 use Rattle.bit_fields.specs.declared.fault.Fault.TheVariants.{Refused}
-use Rattle.bit_fields.specs.Inflow.{Flow}
+use Rattle.bit_fields.specs.Inflow.{Flow, TakesBits}
 use Rattle.bit_fields.specs.Reader.{Reader, Took, Why, Takes, stopped_at}
 use Rattle.bit_fields.specs.Inside.{part_of, TookZeros, reader_of}
-use Rattle.bit_fields.proofs.InflowLaws.{Spends-refl, Spends-none, Keeps-refl}
+use Rattle.std.proofs.lemmas.List.{length-drop, nil_from_length}
+use Rattle.bit_fields.proofs.BitLaws.{take_whole}
+use Rattle.bit_fields.proofs.InflowLaws.{Spends-refl, Spends-none}
 use Rattle.bit_fields.proofs.Composing.{took_then, fault_then, took_nothing, same_reading, from_here}
-use Rattle.bit_fields.proofs.Parts.{window_took}
+use Rattle.bit_fields.proofs.Parts.{flow_took}
 
 -- ---- what is read
 
@@ -29,6 +31,12 @@ zeros_at (suc n) first p (false ∷ w) rest there none =
 -- a zero, as the code reads it
 abbrev zero_of : ℕ → Grammar (Unit {0})
 zero_of first = position >>= λ place. part_of first 1 >>= λ bit. judge (eqb bit 0) DirtyPadding place
+
+zeros_exact : (n first p : ℕ) (s rest : List Bool) → length s ≡ n → 0 ≡ number s → reading (zeros first n) p (s ++ rest) ≡ Ok (tt, p + n, rest)
+zeros_exact n first p s rest len is =
+    let whole : take n s ≡ s = take_whole n s (omega (arith, len)) in
+    let none : drop n s ≡ [] = nil_from_length (drop n s) (omega (arith, length-drop n s, len)) in
+    zeros_at n first p s rest (omega (arith, len)) (ap number whole ∙ sym is) ∙ ap (λ (t : List Bool). Ok (tt, p + n, t ++ rest)) none
 
 one_zero_is : (first p : ℕ) (r : List Bool) → reading (zero_of first) p r ≡ reading (zeros first 1) p r
 one_zero_is first p [] = refl
@@ -51,13 +59,12 @@ zeros_both first (suc count) more p (false ∷ r) =
 
 -- ---- what a call takes
 
-pub zeros_took : (was : Bool) (first most count p q value : ℕ) (f g : Flow) (now : Reader) → reader_of was p f ≡ now → was ≡ true → 0 < count → count ≤ most → count ≤ length f.window → value ≡ 0 → value ≡ number (take count f.window) → g ≡ record f { window = drop count f.window } → q ≡ p + count
-    → TookZeros first most count now (reader_of was q g)
-zeros_took was first most count p q value f g now view live some few there none value_is g_is q_is =
-    rw (← view, live, g_is, q_is) (record {
+pub zeros_took : (was : Bool) (first most count p q : ℕ) (f g : Flow) (now : Reader) → reader_of was p f ≡ now → was ≡ true → 0 < count → count ≤ most → TakesBits count 0 f g → q ≡ p + count → TookZeros first most count now (reader_of was q g)
+zeros_took was first most count p q f g now view live some few t q_is =
+    rw (← view, live, q_is) (record {
       some = some;
       few = few;
-      took = window_took (zeros first count) tt count p f f (Keeps-refl f) (λ rest. zeros_at count first p f.window rest there (sym value_is ∙ none));
+      took = flow_took (zeros first count) tt count 0 p f g t (λ s rest len is. zeros_exact count first p s rest len is);
       moves = refl;
     })
 

@@ -1,8 +1,8 @@
 -- Calls that read a number of bits of a field.
-use Rattle.std.proofs.Common.{◌≡◌, ℕ, ◌+◌, ◌*◌, ◌-◌, ◌<◌, ◌≤◌, min, Bool, true, false, List, [], ◌++◌, length, take, drop, Result, Ok, Err, refl, sym, ap, ◌∙◌, subst, arith}
+use Rattle.std.proofs.Common.{◌≡◌, ℕ, ◌+◌, ◌<◌, ◌≤◌, Bool, true, false, ltb, ◌&&◌, List, [], ◌++◌, length, take, drop, Result, Ok, Err, refl, sym, ap, ◌∙◌, subst, arith}
 use Rattle.std.proofs.lemmas.Bool.{le-ltb, lt-ltb}
-use Rattle.std.proofs.lemmas.List.{length-append, take-append-le, drop-append-le}
-use Rattle.bit_grammar.specs.Bits.{number, bits_of_bytes}
+use Rattle.std.proofs.lemmas.List.{length-append, length-drop, take-append-le, drop-append-le, nil_from_length}
+use Rattle.bit_grammar.specs.Bits.{number}
 use Rattle.bit_grammar.specs.declared.reason.Reason.TheVariants.{Truncated}
 use Rattle.bit_grammar.specs.Grammar.{Grammar, at, gives, reading}
 use Rattle.bit_grammar.specs.Fields.{fixed, byte, char6}
@@ -10,12 +10,13 @@ use Rattle.bit_grammar.specs.Terms.{character}
 use Rattle.bit_fields.specs.declared.fault.Fault.{Fault}
 use Rattle.bit_fields.specs.declared.inflow.Missing.{Missing}
 use Rattle.bit_fields.specs.declared.inflow.Missing.TheVariants.{End, Limit, Read}
-use Rattle.bit_fields.specs.Devices.{known_bytes}
-use Rattle.bit_fields.specs.Inflow.{Flow, stop_of, budget_of, KeepsFlow, Fills}
+use Rattle.bit_fields.specs.Inflow.{Flow, IsKnown, flow_bits, total_of, is_flow_cut, budget_of, place_of, KeepsFlow, LooksOn, TakesBits, Misses}
+use Rattle.bit_fields.specs.Short.{TookNothing}
 use Rattle.bit_fields.specs.Reader.{Reader, Took, Why, Takes, stopped_at}
 use Rattle.bit_fields.specs.Inside.{part_of, reader_of, fault_of_missing}
-use Rattle.bit_fields.proofs.InflowLaws.{Spends-none}
-use Rattle.bit_fields.proofs.Composing.{fault_then, spells_read, took_then, took_nothing, from_here}
+use Rattle.bit_fields.proofs.BitLaws.{take_whole}
+use Rattle.bit_fields.proofs.InflowLaws.{Spends-none, looks_on}
+use Rattle.bit_fields.proofs.Composing.{fault_then, spells_nothing, spells_read, took_then, took_nothing, from_here}
 
 -- ---- the reading
 
@@ -28,61 +29,76 @@ part_at n first p w rest there =
 pub part_short : (n first p : ℕ) (r : List Bool) → length r < n → reading (part_of first n) p r ≡ Err (at Truncated first)
 part_short n first p r short = rw (lt-ltb (length r) n short) refl
 
+-- exactly n bits
+pub part_exact : (n first p value : ℕ) (s rest : List Bool) → length s ≡ n → value ≡ number s → reading (part_of first n) p (s ++ rest) ≡ Ok (value, p + n, rest)
+part_exact n first p value s rest len is =
+    let whole : take n s ≡ s = take_whole n s (omega (arith, len)) in
+    let none : drop n s ≡ [] = nil_from_length (drop n s) (omega (arith, length-drop n s, len)) in
+    part_at n first p s rest (omega (arith, len)) ∙ ap (λ (t : List Bool). Ok (number t, p + n, drop n s ++ rest)) whole ∙ ap (λ (t : List Bool). Ok (number s, p + n, t ++ rest)) none ∙ ap (λ (x : ℕ). Ok (x, p + n, rest)) (sym is)
+
 -- ---- the call
 
--- a rule that takes n bits of the window
-pub window_took : {A : Type 0} (rule : Grammar A) (value : A) (n p : ℕ) (f g : Flow) → KeepsFlow f g → ((rest : List Bool) → reading rule p (g.window ++ rest) ≡ Ok (value, p + n, drop n g.window ++ rest)) → Took rule (reader_of true p f) value (reader_of true (p + n) (record g { window = drop n g.window }))
-window_took rule value n p f g kept read = record {
+-- a rule that takes n bits
+pub flow_took : {A : Type 0} (rule : Grammar A) (value : A) (n v p : ℕ) (f g : Flow) → TakesBits n v f g → ((s rest : List Bool) → length s ≡ n → v ≡ number s → reading rule p (s ++ rest) ≡ Ok (value, p + n, rest)) → Took rule (reader_of true p f) value (reader_of true (p + n) g)
+flow_took rule value n v p f g t read = record {
   was_live = refl;
   live = refl;
-  goes_on = kept.spends;
+  goes_on = t.spends;
   forward = omega arith;
-  end = kept.end;
-  limit = kept.limit;
-  extent = λ k. rw (kept.total k, kept.end, kept.limit) refl;
-  reads = λ k. ap (reading rule p) (sym (kept.left k)) ∙ read (bits_of_bytes (take (stop_of g - g.loaded) (known_bytes g.incoming.to_come)));
-  spells = spells_read rule p (g.window ++ []) value (p + n) (drop n g.window ++ []) (read []);
+  end = t.end;
+  limit = t.limit;
+  extent = λ k. rw (t.total k, t.end, t.limit) refl;
+  reads = λ k. ap (reading rule p) (t.left k) ∙ read t.front (flow_bits g) t.long t.is;
+  spells = spells_read rule p (t.front ++ []) value (p + n) [] (read t.front [] t.long t.is);
 }
 
+pub cut_same : (f g : Flow) (by_limit : Bool) → KeepsFlow f g → IsKnown f → is_flow_cut g ≡ by_limit → is_flow_cut f ≡ by_limit
+cut_same f g by_limit keeps k cut =
+    sym (ap (λ (t : ℕ). ltb f.limit t && ltb f.limit f.end) (keeps.total k)) ∙ sym (ap (λ (l : ℕ). ltb l (total_of g) && ltb l f.end) keeps.limit) ∙ sym (ap (λ (e : ℕ). ltb g.limit (total_of g) && ltb g.limit e) keeps.end) ∙ cut
+
 -- a rule that is truncated if fewer than n bits are left
-pub window_missed : {A : Type 0} (rule : Grammar A) (n first p : ℕ) (f g : Flow) (missing : Missing) → ((more : List Bool) → length (f.window ++ more) < n → reading rule p (f.window ++ more) ≡ Err (at Truncated first)) → Fills n f g (Err missing) → Why rule (reader_of true p f) (fault_of_missing missing first g.limit) (stopped_at (reader_of true p g) first)
-window_missed rule n first p f g End short out = (
+pub flow_missed : {A : Type 0} (rule : Grammar A) (n first p : ℕ) (f g : Flow) (missing : Missing) → ((r : List Bool) → length r < n → reading rule p r ≡ Err (at Truncated first)) → Misses n f g missing → Why rule (reader_of true p f) (fault_of_missing missing first g.limit) (stopped_at (reader_of true p g) first)
+flow_missed rule n first p f g End short out = (
   record { was_live = refl; failed = refl; goes_on = Spends-none f.incoming (budget_of f) g.incoming (budget_of g) out.keeps.spends },
-  λ k. rw (short (bits_of_bytes (take (stop_of f - f.loaded) (known_bytes f.incoming.to_come))) (out.left k)) (rw (out.cut k) refl),
+  λ k. rw (short (flow_bits f) (omega (arith, ap length (out.keeps.left k), out.left))) (rw (cut_same f g false out.keeps k out.cut) refl),
 )
-window_missed rule n first p f g Limit short out = (
+flow_missed rule n first p f g Limit short out = (
   record { was_live = refl; failed = refl; goes_on = Spends-none f.incoming (budget_of f) g.incoming (budget_of g) out.keeps.spends },
-  λ k. rw (short (bits_of_bytes (take (stop_of f - f.loaded) (known_bytes f.incoming.to_come))) (out.left k)) (rw (out.cut k, out.keeps.limit) refl),
+  λ k. rw (short (flow_bits f) (omega (arith, ap length (out.keeps.left k), out.left))) (rw (cut_same f g true out.keeps k out.cut, out.keeps.limit) refl),
 )
-window_missed rule n first p f g Read short lost = record { was_live = refl; failed = refl; fails = lost.fails }
+flow_missed rule n first p f g Read short lost = record { was_live = refl; failed = refl; fails = lost.fails }
+
+-- a reader whose source was asked, and of whose input nothing was taken
+pub kept_nothing : (p : ℕ) (f g : Flow) → KeepsFlow f g → TookNothing (reader_of true p f) (reader_of true p g)
+kept_nothing p f g keeps = record {
+  was_live = refl;
+  live = refl;
+  goes_on = keeps.spends;
+  forward = omega arith;
+  end = keeps.end;
+  limit = keeps.limit;
+  extent = λ k. rw (keeps.total k, keeps.end, keeps.limit) refl;
+  reads = λ k. ap (λ (s : List Bool). Ok (tt {0}, p, s)) (sym (keeps.left k));
+  spells = spells_nothing (tt {0}) p;
+}
 
 -- ---- as the code handles them
 
-pub fills_exact : (n p : ℕ) (a b : Flow) (missing : Missing) → Fills n a b (Err missing) → p + length a.window ≡ 8 * min a.loaded (stop_of a) → p + length b.window ≡ 8 * min b.loaded (stop_of b)
-fills_exact n p a b End out place = omega (arith, out.keeps.place.exact, place)
-fills_exact n p a b Limit out place = omega (arith, out.keeps.place.exact, place)
-fills_exact n p a b Read lost place = omega (arith, lost.place.exact, place)
+pub misses_exact : (n : ℕ) (f g : Flow) (missing : Missing) → Misses n f g missing → place_of g ≡ place_of f
+misses_exact n f g End out = out.keeps.place
+misses_exact n f g Limit out = out.keeps.place
+misses_exact n f g Read lost = lost.place
 
-pub live_from : (live : Bool) (w : List Bool) (n : ℕ) → (live ≡ false → w ≡ []) → 0 < n → n ≤ length w → live ≡ true
-live_from true w n empty some there = refl
-live_from false w n empty some there = absurd (omega (arith, ap length (empty refl)))
+pub took_as : (n first p value q : ℕ) (was : Bool) (f g : Flow) (now : Reader) → was ≡ true → reader_of was p f ≡ now → TakesBits n value f g → q ≡ p + n → Took (part_of first n) now value (reader_of was q g)
+took_as n first p value q was f g now live view t q_is = rw (← view, live, q_is) (flow_took (part_of first n) value n value p f g t (λ s rest len is. part_exact n first p value s rest len is))
 
--- n bits are in the window
-pub record Filled (n p : ℕ) (f : Flow) (alive : Bool) (q : ℕ) (g : Flow) : Type 0 where
-  pub live : alive ≡ true
-  pub position : q ≡ p
-  pub keeps : KeepsFlow f g
-  pub there : n ≤ length g.window
-
-pub took_as : (n first p q value after_q : ℕ) (was live : Bool) (f g after : Flow) (now : Reader) → was ≡ true → reader_of was p f ≡ now → Filled n p f live q g → value ≡ number (take n g.window) → after_q ≡ q + n → after ≡ record g { window = drop n g.window }
-    → Took (part_of first n) now value (reader_of live after_q after)
-took_as n first p q value after_q was live f g after now was_live now_is filled value_is q_is after_is =
-    rw (← now_is, was_live, filled.live, value_is, q_is, filled.position, after_is) (window_took (part_of first n) (number (take n g.window)) n p f g filled.keeps (λ rest. part_at n first p g.window rest filled.there))
-
-pub missed_as : (n first p : ℕ) (was : Bool) (f g : Flow) (missing : Missing) (now new : Reader) (fault : Fault) → was ≡ true → reader_of was p f ≡ now → Fills n f g (Err missing) → fault ≡ fault_of_missing missing first g.limit → new ≡ stopped_at (reader_of was p g) first
+pub missed_as : (n first p : ℕ) (was : Bool) (f g : Flow) (missing : Missing) (now new : Reader) (fault : Fault) → was ≡ true → reader_of was p f ≡ now → Misses n f g missing → fault ≡ fault_of_missing missing first g.limit → new ≡ stopped_at (reader_of was p g) first
     → Why (part_of first n) now fault new
-missed_as n first p was f g missing now new fault was_live now_is fills fault_is new_is =
-    rw (← now_is, new_is, was_live, fault_is) (window_missed (part_of first n) n first p f g missing (λ more short. part_short n first p (f.window ++ more) short) fills)
+missed_as n first p was f g missing now new fault was_live view out fault_is new_is =
+    rw (← view, new_is, was_live, fault_is) (flow_missed (part_of first n) n first p f g missing (λ r short. part_short n first p r short) out)
+
+pub looked_as : (p : ℕ) (was : Bool) (f g : Flow) (now : Reader) → was ≡ true → reader_of was p f ≡ now → LooksOn f g → TookNothing now (reader_of was p g)
+looked_as p was f g now live view looks = rw (← view, live) (kept_nothing p f g (looks_on f g looks))
 
 -- ---- fields of one part
 

@@ -91,7 +91,7 @@ pub eight_there : (at : ℕ) (bytes : List ℕ) → 64 ≤ length (drop at (bits
 eight_there at bytes there = omega (arith, ap length (left_after (at / 8) bytes), length-drop (at / 8) bytes, length_at at bytes, there)
 
 -- the bits after whole bytes, and a part of a byte
-behind_bytes : (at : ℕ) (bytes : List ℕ) → at ≤ 8 * length bytes → drop (at % 8) (bits_of_bytes (take (length bytes - at / 8) (drop (at / 8) bytes))) ≡ drop at (bits_of_bytes bytes)
+pub behind_bytes : (at : ℕ) (bytes : List ℕ) → at ≤ 8 * length bytes → drop (at % 8) (bits_of_bytes (take (length bytes - at / 8) (drop (at / 8) bytes))) ≡ drop at (bits_of_bytes bytes)
 behind_bytes at bytes there =
     let place : 8 * (at / 8) + at % 8 ≡ at = omega arith in
     ap (λ (xs : List ℕ). drop (at % 8) (bits_of_bytes xs)) (sym (left_after (at / 8) bytes)) ∙ ap (drop (at % 8)) (bytes_dropped (at / 8) bytes (omega (arith, there))) ∙ drop_more (8 * (at / 8)) (at % 8) (bits_of_bytes bytes) ∙ ap (λ (k : ℕ). drop k (bits_of_bytes bytes)) place

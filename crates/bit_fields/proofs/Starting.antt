@@ -1,7 +1,6 @@
 -- The beginning of an input.
-use Rattle.std.proofs.Common.{◌≡◌, ℕ, ◌+◌, ◌*◌, ◌-◌, ◌%◌, ◌^◌, ◌<◌, ◌≤◌, min, Bool, true, not, ◌&&◌, leb, eqb, List, [], length, take, Option, Some, None, Result, Ok, Err, refl, sym, ap, ◌∙◌, subst, arith, inl, inr}
+use Rattle.std.proofs.Common.{◌≡◌, ℕ, ◌+◌, ◌*◌, ◌-◌, ◌%◌, ◌^◌, ◌<◌, ◌≤◌, ◌⊎◌, Bool, true, false, not, ◌&&◌, leb, eqb, List, [], length, take, Option, Some, None, Result, Ok, Err, refl, sym, ap, ◌∙◌, subst, arith, inl, inr}
 use Rattle.std.proofs.lemmas.Bool.{cases_lt, false≢true, le-ltb, lt-ltb, ne_eqb}
-use Rattle.std.proofs.lemmas.List.{length-take-le}
 use Rattle.std.proofs.Math.Nat.{mod-eq_of_lt}
 use Rattle.std.specs.Int.{w32, to_le_bytes}
 use Rattle.bit_grammar.specs.declared.reason.Reason.{Reason}
@@ -16,15 +15,15 @@ use Rattle.bit_grammar.specs.Input.{version, offset, wrapper, any_bits, wrapper_
 use Rattle.bit_fields.specs.declared.fault.Fault.{Fault}
 use Rattle.bit_fields.specs.declared.fault.Fault.TheVariants.{Refused, Read, Write, Memory, OutputTooLong, Failed}
 use Rattle.bit_fields.specs.declared.head.Wrapper.{Wrapper}
-use Rattle.bit_fields.specs.Devices.{Fails}
-use Rattle.bit_fields.specs.Inflow.{Flow, flow_bits, stop_of, flow_ended_at}
-use Rattle.bit_fields.specs.Reader.{Reader, Extent, TellsBytes, is_cut, Breaks, GoesOn, Loses, SpellsTo, Took, Why, Takes, NeedsNoMemory}
+use Rattle.bit_fields.specs.Devices.{Incoming, Fails}
+use Rattle.bit_fields.specs.Inflow.{Flow, flow_bits, place_of, Shortens}
+use Rattle.bit_fields.specs.Reader.{Reader, Extent, EndsAfter, TellsBytes, is_cut, Breaks, GoesOn, Loses, SpellsTo, Took, Why, Takes, NeedsNoMemory, GivenBack, Returned}
 use Rattle.bit_fields.specs.Inside.{reader_of, IsReader}
 use Rattle.bit_fields.specs.Opening.{Beginning, with_magic, in_wrapper, beginning, opening, wrapper_read, wrapper_of, wrapper_told, magic_number, end_of_stream, OpenedInput, LeavesSource, Declines}
 use Rattle.bit_fields.specs.Ending.{reach_of}
 use Rattle.bit_fields.proofs.BitLaws.{le_bytes_bits_32, number-bits_mod}
-use Rattle.bit_fields.proofs.InflowLaws.{Spends-none, Fails-none, fails_later}
-use Rattle.bit_fields.proofs.Shortening.{left_shortened}
+use Rattle.bit_fields.proofs.InflowLaws.{Spends-none, Spends-trans, Fails-none, fails_later}
+use Rattle.bit_fields.proofs.Showing.{given_back}
 use Rattle.bit_fields.proofs.Composing.{spells_nothing, spells_then, took_then, fault_then, took_nothing, from_here, goes_on_both}
 use Rattle.bit_fields.proofs.Padding.{is_eqb}
 
@@ -116,26 +115,20 @@ wrapper_took a b o c size d cpu e t u v w =
 
 -- ---- the end that a wrapper names
 
-pub ended_after : (p offset size end : ℕ) (live : Bool) (f g : Flow) (now : Reader) → reader_of live p f ≡ now → now.live ≡ true → now.position ≡ 8 * offset → now.extent.end ≡ 2 ^ 64 - 1 → f.limit < 2 ^ 35 → IsReader live p f → end ≡ offset + size → g ≡ flow_ended_at f end
-    → reader_of live p g ≡ record now { left = take (8 * size) now.left; extent = record now.extent { end = offset + size } }
-ended_after p offset size end live f g now view is_live at high limit is end_is g_is =
+pub ended_after : (p offset size end : ℕ) (live : Bool) (f g : Flow) (now : Reader) → reader_of live p f ≡ now → now.live ≡ true → now.position ≡ 8 * offset → now.extent.end ≡ 2 ^ 64 - 1 → f.limit < 2 ^ 35 → end ≡ offset + size → IsReader live p f → Shortens end f g → EndsAfter (offset + size) (8 * size) now (reader_of live p g)
+ended_after p offset size end live f g now view is_live at high limit end_is is short =
     let l : live ≡ true = ap (λ (r : Reader). r.live) view ∙ is_live in
     let q : p ≡ 8 * offset = ap (λ (r : Reader). r.position) view ∙ at in
     let h : f.end ≡ 2 ^ 64 - 1 = ap (λ (r : Reader). r.extent.end) view ∙ high in
-    let n : 8 * end - p ≡ 8 * size = omega arith in
-    let left : flow_bits (flow_ended_at f end) ≡ take (8 * size) (flow_bits f) = left_shortened f p end (omega arith) (is.exact l) (omega arith) ∙ ap (λ (k : ℕ). take k (flow_bits f)) n in
-    rw (← view, g_is, l, left, end_is) refl
-
-pub ended_is_reader : (p offset end : ℕ) (live : Bool) (f g : Flow) (now : Reader) → reader_of live p f ≡ now → now.live ≡ true → now.position ≡ 8 * offset → now.extent.end ≡ 2 ^ 64 - 1 → f.limit < 2 ^ 35 → IsReader live p f → offset ≤ end → g ≡ flow_ended_at f end → IsReader live p g
-ended_is_reader p offset end live f g now view is_live at high limit is end_is g_is =
-    let l : live ≡ true = ap (λ (r : Reader). r.live) view ∙ is_live in
-    let q : p ≡ 8 * offset = ap (λ (r : Reader). r.position) view ∙ at in
-    let h : f.end ≡ 2 ^ 64 - 1 = ap (λ (r : Reader). r.extent.end) view ∙ high in
-    let len : length (take (length f.window - 8 * (min f.loaded f.limit - end)) f.window) ≡ length f.window - 8 * (min f.loaded f.limit - end) = length-take-le (length f.window - 8 * (min f.loaded f.limit - end)) f.window (omega arith) in
-    let place : p + length f.window ≡ 8 * min f.loaded (stop_of f) = is.exact l in
-    rw g_is (record {
-      exact = λ e. omega arith;
-      empty = λ e. absurd (false≢true (sym e ∙ l));
+    let n : 8 * end - place_of f ≡ 8 * size = omega (arith, is l, q, end_is) in
+    rw (← view, l) (record {
+      live = refl;
+      position = refl;
+      goes_on = short.spends;
+      end_is = short.end_is ∙ end_is;
+      limit = short.limit;
+      total = short.total;
+      left = λ k. short.left k (omega (arith, limit, h)) ∙ ap (λ (m : ℕ). take m (flow_bits f)) n;
     })
 
 -- ---- the whole beginning
@@ -267,12 +260,12 @@ gap_broke e w end p r reason bit high reach fits le breaks = elim (cases_lt (len
   | inr more ↦ absurd (rw (le-ltb (length r) (8 * (w.offset - 20)) more) at breaks)
 ]
 
-pub gap_missed : (a : Reader) (w : terms.Wrapper) (c : Reader) (place : ℕ) (fault : Fault) (d : Reader) → a.extent.end ≡ 2 ^ 64 - 1 → Headed a w c → c.position ≡ 160 → w.offset < 2 ^ 32 → place ≡ c.position → (c.live ≡ true → place + length c.left ≡ reach_of c.extent)
+pub gap_missed : (a : Reader) (w : terms.Wrapper) (c : Reader) (place : ℕ) (fault : Fault) (d : Reader) → a.extent.end ≡ 2 ^ 64 - 1 → Headed a w c → c.position ≡ 160 → w.offset < 2 ^ 32 → place ≡ c.position → (c.live ≡ true → TellsBytes c → place + length c.left ≡ reach_of c.extent)
     → Why (any_bits (8 * (w.offset - 20))) c fault d → NeedsNoMemory {A = Unit {0}} (Err fault) → Declines a fault d.incoming
 gap_missed a w c place (Refused reason bit) d high t at fits place_is reach why m = (
   leaves a d (goes_on_both a c d t.goes_on why.0.goes_on),
   λ k.
-      let len : 160 + length c.left ≡ reach_of a.extent = subst (λ (e : Extent). 160 + length c.left ≡ reach_of e) (t.extent k) (subst (λ (n : ℕ). n + length c.left ≡ reach_of c.extent) (place_is ∙ at) (reach t.live)) in
+      let len : 160 + length c.left ≡ reach_of a.extent = subst (λ (e : Extent). 160 + length c.left ≡ reach_of e) (t.extent k) (subst (λ (n : ℕ). n + length c.left ≡ reach_of c.extent) (place_is ∙ at) (reach t.live (t.goes_on.tells k))) in
       rw (t.reads k, t.wrapped k) (gap_broke a.extent w (w.offset + w.size) c.position c.left reason bit high len fits (omega arith) (subst (λ (e : Extent). Breaks e (reading (any_bits (8 * (w.offset - 20))) c.position c.left) reason bit) (t.extent k) (why.1 (t.goes_on.tells k)))),
 )
 gap_missed a w c place Read d high t at fits place_is reach why m = fails_from a c d t.goes_on why
@@ -292,27 +285,35 @@ pub record Reached (a : Reader) (w : terms.Wrapper) (d : Reader) : Type 0 where
   pub limit : d.extent.limit ≡ a.extent.limit
   pub spells : (first p : ℕ) × (is_wrapped first ≡ true) × SpellsFirst first p × SpellsTo wrapper_and_gap p w d.position
 
-pub reached : (a : Reader) (w : terms.Wrapper) (c d e : Reader) → Headed a w c → Took (any_bits (8 * (w.offset - 20))) c tt d → e ≡ record d { left = take (8 * w.size) d.left; extent = record d.extent { end = w.offset + w.size } } → Reached a w e
+abbrev extent_of : ℕ → ℕ → ℕ → Extent
+extent_of total end limit = record { total = total; end = end; limit = limit }
+
+pub reached : (a : Reader) (w : terms.Wrapper) (c d e : Reader) → Headed a w c → Took (any_bits (8 * (w.offset - 20))) c tt d → EndsAfter (w.offset + w.size) (8 * w.size) d e → Reached a w e
 unfolding wrapper_and_gap
-reached a w c d e t u e_is =
+reached a w c d e t u ends =
     let both = goes_on_both a c d t.goes_on u.goes_on in
-    rw e_is (record {
-      live = u.live;
-      goes_on = both;
-      extent = λ k. ap (λ (x : Extent). record x { end = w.offset + w.size }) (u.extent (t.goes_on.tells k) ∙ t.extent k);
+    record {
+      live = ends.live ∙ u.live;
+      goes_on = goes_on_both a d e both ends.goes_on;
+      extent = λ k.
+          let was : d.extent ≡ a.extent = u.extent (t.goes_on.tells k) ∙ t.extent k in
+          extent_is e.extent a.extent (w.offset + w.size) (ends.total (both.tells k) ∙ ap (λ (x : Extent). x.total) was) ends.end_is (ends.limit ∙ ap (λ (x : Extent). x.limit) was);
       wrapped = t.wrapped;
-      reads = λ k. rw (t.reads k, u.reads (t.goes_on.tells k)) refl;
-      end = refl;
-      limit = u.limit ∙ t.limit;
+      reads = λ k. rw (t.reads k, u.reads (t.goes_on.tells k), ends.position, ends.left (both.tells k)) refl;
+      end = ends.end_is;
+      limit = ends.limit ∙ u.limit ∙ t.limit;
       spells = let s = t.spells in (
         s.0,
         s.1,
         s.2,
         s.3,
-        spells_then wrapper (λ w. any_bits (8 * (w.offset - 20)) >> gives w) s.1 c.position d.position w w s.4
-            (spells_then (any_bits (8 * (w.offset - 20))) (λ v. gives w) c.position d.position d.position tt w u.spells (spells_nothing w d.position)),
+        subst (λ (q : ℕ). SpellsTo wrapper_and_gap s.1 w q) (sym ends.position) (spells_then wrapper (λ w. any_bits (8 * (w.offset - 20)) >> gives w) s.1 c.position d.position w w s.4
+            (spells_then (any_bits (8 * (w.offset - 20))) (λ v. gives w) c.position d.position d.position tt w u.spells (spells_nothing w d.position))),
       );
-    })
+    }
+  where
+    extent_is : (x y : Extent) (end : ℕ) → x.total ≡ y.total → x.end ≡ end → x.limit ≡ y.limit → x ≡ record y { end = end }
+    extent_is x y end total ends_at limit = ap (λ (t : ℕ). extent_of t x.end x.limit) total ∙ ap (λ (e : ℕ). extent_of y.total e x.limit) ends_at ∙ ap (λ (l : ℕ). extent_of y.total end l) limit
 
 magic_broke : (e : Extent) (outer : Option terms.Wrapper) (x : Result (ℕ × ℕ × List Bool) grammar.Fault) (reason : Reason) (bit : ℕ) → Breaks e x reason bit → Breaks e (with_magic outer x) reason bit
 magic_broke e outer (Ok x) reason bit b = absurd b
@@ -354,3 +355,31 @@ stream_begins a w e n magic f t u below is = record {
 
     spelled : SpellsTo opening 0 head f.position
     spelled = spells_then (fixed 32) in_input 0 t.spells.1 f.position t.spells.0 head t.spells.3 (inner.0, inl (t.spells.2, inner.1), inner.2)
+
+-- ---- the source of an input that was not begun
+
+pub why_failed : {A : Type 0} (rule : Grammar A) (a : Reader) (fault : Fault) (b : Reader) → Why rule a fault b → b.live ≡ false
+why_failed rule a (Refused reason bit) b why = why.0.failed
+why_failed rule a Read b why = why.failed
+why_failed rule a Memory b why = why.failed
+why_failed rule a Failed b why = ap (λ (r : Reader). r.live) why.1 ∙ why.0
+why_failed rule a Write b why = absurd why
+why_failed rule a OutputTooLong b why = absurd why
+
+back_after : (i j l : Incoming) (n : ℕ) → Fails i n j 0 → GivenBack j l → Fails i n l 0
+back_after i j l n fails back = record {
+  pulls = omega (arith, fails.pulls, back.pulls);
+  failed = elim fails.failed [ inl one ↦ inl (back.failures ∙ one) | inr worn ↦ inr (back.failures ∙ worn.0, rw (back.pulls, back.failures) worn.1) ];
+  tells = λ k. back.tells (fails.tells k);
+  bytes = λ k. omega (arith, fails.bytes k, ap length (back.bytes (fails.tells k)));
+  accounts = λ m all says. back.accounts m all (fails.accounts m all says);
+}
+
+pub declines_back : (a m : Reader) (fault : Fault) (now : Incoming) → Declines a fault m.incoming → m.live ≡ false → Returned m now ⊎ ((m.live ≡ true) × Fails m.incoming m.budget now 0) → Declines a fault now
+declines_back a m fault now d dead (inr fails) = absurd (false≢true (sym dead ∙ fails.0))
+declines_back a m (Refused reason bit) now d dead (inl back) = (Spends-trans a.incoming a.budget m.incoming 0 now 0 d.0 (given_back m.incoming now (back.failed dead)), d.1)
+declines_back a m Read now d dead (inl back) = back_after a.incoming m.incoming now a.budget d (back.failed dead)
+declines_back a m Memory now d dead (inl back) = d
+declines_back a m Failed now d dead (inl back) = d
+declines_back a m Write now d dead (inl back) = d
+declines_back a m OutputTooLong now d dead (inl back) = d

@@ -1,5 +1,5 @@
 -- The parts of a reader, and of its calls.
-use Rattle.std.specs.Prelude.{◌≡◌, ℕ, zero, suc, ◌+◌, ◌*◌, ◌<◌, ◌≤◌, ◌^◌, min, Bool, true, false, if◌then◌else◌, List, [], ◌∷◌, length, take, drop}
+use Rattle.std.specs.Prelude.{◌≡◌, ℕ, zero, suc, ◌+◌, ◌*◌, ◌<◌, ◌≤◌, ◌^◌, Bool, true, if◌then◌else◌, List, [], ◌∷◌, take, drop}
 use Rattle.bit_grammar.specs.declared.reason.Reason.TheVariants.{Truncated, TooLong}
 use Rattle.bit_grammar.specs.Bits.{number}
 use Rattle.bit_grammar.specs.Grammar.{Grammar, gives, ◌>>=◌}
@@ -9,7 +9,7 @@ use Rattle.bit_fields.specs.declared.fault.Fault.TheVariants.{Refused, Read}
 use Rattle.bit_fields.specs.declared.inflow.Missing.{Missing}
 use Rattle.bit_fields.specs.declared.inflow.Missing.TheVariants.{End, Limit}
 use Rattle.bit_fields.specs.declared.inflow.Missing.TheVariants as missing
-use Rattle.bit_fields.specs.Inflow.{Flow, flow_bits, total_of, budget_of, stop_of}
+use Rattle.bit_fields.specs.Inflow.{Flow, flow_bits, total_of, budget_of, there_of, place_of}
 use Rattle.bit_fields.specs.Reader.{Reader, Took}
 
 -- a number of n bits, a part of a field that began at `first`
@@ -32,13 +32,13 @@ reader_of live position f = record {
   left = if live then flow_bits f else [];
   extent = record { total = total_of f; end = f.end; limit = f.limit };
   incoming = f.incoming;
+  there = if live then there_of f else 0;
   budget = if live then budget_of f else 0;
 }
 
 -- the invariant of its parts between calls; a failed reader may have any position
-pub record IsReader (live : Bool) (position : ℕ) (f : Flow) : Type 0 where
-  pub exact : live ≡ true → position + length f.window ≡ 8 * min f.loaded (stop_of f)
-  pub empty : live ≡ false → f.window ≡ []
+abbrev pub IsReader : Bool → ℕ → Flow → Type 0
+IsReader live position f = live ≡ true → position ≡ place_of f
 
 -- the fault for missing bits of a field that began at `first`
 abbrev pub fault_of_missing : Missing → ℕ → ℕ → Fault

@@ -11,7 +11,6 @@ pub mod Writer
 pub mod Texts
 pub mod Short
 pub mod Buffered
-pub mod BufferedParts
 pub mod Packed
 pub mod Wide
 pub mod Expected

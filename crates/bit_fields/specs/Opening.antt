@@ -88,6 +88,7 @@ fresh i limit = record {
   left = bits_of_bytes (take limit (known_bytes i.to_come));
   extent = record { total = length (known_bytes i.to_come); end = 2 ^ 64 - 1; limit = limit };
   incoming = i;
+  there = 0;
   budget = limit + 1;
 }
 

@@ -1,7 +1,7 @@
 -- Buffered bits at a place of bytes, and what a load of them shows.
 use Rattle.std.specs.Prelude.{◌≡◌, ℕ, suc, ◌+◌, ◌*◌, ◌%◌, ◌^◌, ◌<◌, ◌≤◌, ◌↔◌, Bool, List, length, take, drop, get_or}
 use Rattle.std.specs.Int.{w64, bit_at, bit_not}
-use Rattle.bit_grammar.specs.Bits.{bits_of, bits_of_bytes}
+use Rattle.bit_grammar.specs.Bits.{bits_of, bits_of_bytes, number}
 use Rattle.bit_grammar.specs.Grammar.{repeat}
 use Rattle.bit_grammar.specs.Fields.{vbr}
 use Rattle.bit_fields.specs.Buffered.{BufferedBits, Reads, beyond}
@@ -11,6 +11,12 @@ use Rattle.bit_fields.specs.declared.placed.numbers.TheConstants.{TOPS_OF}
 -- the bits from a place of bytes on
 abbrev pub bits_at : (start at : ℕ) → (bytes : List ℕ) → BufferedBits
 bits_at start at bytes = record { position = start + at; bits = drop at (bits_of_bytes bytes) }
+
+-- the first n bits are there, and spell this number
+pub record IsFront (n : ℕ) (a : BufferedBits) (value : ℕ) : Type 0 where
+  pub there : n ≤ length a.bits
+  pub is : value ≡ number (take n a.bits)
+  pub below : value < 2 ^ n
 
 -- The bits up to each 1 of a word are the complements of the word's. So no 1 stands for a bit that was not loaded.
 pub record Shows (ends : ℕ) (bits : List Bool) : Type 0 where

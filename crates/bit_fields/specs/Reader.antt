@@ -1,12 +1,12 @@
 -- The model of a bit reader, and what its calls take. A call that reads is described by a rule of the grammar.
-use Rattle.std.specs.Prelude.{◌≡◌, ℕ, ◌+◌, ◌*◌, ◌≤◌, Bool, true, false, ◌&&◌, if◌then◌else◌, List, [], ◌++◌, length, IsSome, Result, Ok, Err, nat_lt}
+use Rattle.std.specs.Prelude.{◌≡◌, ℕ, ◌+◌, ◌*◌, ◌≤◌, Bool, true, false, ◌&&◌, if◌then◌else◌, List, [], ◌++◌, length, take, get_or, IsSome, Result, Ok, Err, nat_lt, ◌<◌, ◌-◌}
 use Rattle.bit_grammar.specs.declared.reason.Reason.{Reason}
 use Rattle.bit_grammar.specs.declared.reason.Reason.TheVariants.{Truncated, TooLong}
 use Rattle.bit_grammar.specs.Grammar as grammar
 use Rattle.bit_grammar.specs.Grammar.{Grammar, at, Spells, reading}
 use Rattle.bit_fields.specs.declared.fault.Fault.{Fault}
 use Rattle.bit_fields.specs.declared.fault.Fault.TheVariants.{Refused, Read, Write, Memory, OutputTooLong, Failed}
-use Rattle.bit_fields.specs.Devices.{Incoming, Spends, Fails}
+use Rattle.bit_fields.specs.Devices.{Incoming, SaysOf, Spends, Fails, known_bytes}
 
 -- how far a stream goes
 pub record Extent : Type 0 where
@@ -26,6 +26,8 @@ pub record Reader : Type 0 where
   pub left : List Bool
   pub extent : Extent
   pub incoming : Incoming
+  -- how many unread bits were taken from the source or lent by it
+  pub there : ℕ
   -- how many pulls it may still make and bytes it may take, together
   pub budget : ℕ
 
@@ -121,8 +123,57 @@ IsOnly rule old (Err fault) new = Unit {0}
 
 -- a reader that has failed keeps its position
 abbrev pub failed_reader : Reader → Reader
-failed_reader r = record r { live = false; left = []; budget = 0 }
+failed_reader r = record r { live = false; left = []; there = 0; budget = 0 }
 
 -- a reader that has failed in a call that began at a bit
 abbrev pub stopped_at : Reader → ℕ → Reader
-stopped_at r first = record r { live = false; position = first; left = []; budget = 0 }
+stopped_at r first = record r { live = false; position = first; left = []; there = 0; budget = 0 }
+
+-- the stream ends at a byte, so many bits after its place
+pub record EndsAfter (end bits : ℕ) (old new : Reader) : Type 0 where
+  pub live : new.live ≡ old.live
+  pub position : new.position ≡ old.position
+  pub goes_on : GoesOn old new
+  pub end_is : new.extent.end ≡ end
+  pub limit : new.extent.limit ≡ old.extent.limit
+  pub total : TellsBytes old → new.extent.total ≡ old.extent.total
+  pub left : TellsBytes old → new.left ≡ take bits old.left
+
+-- how many bytes were taken from the source
+abbrev pub taken_by : Reader → ℕ
+taken_by r = r.extent.total - length (known_bytes r.incoming.to_come)
+
+-- a call in which the source fails takes bytes from it that end before this bit
+abbrev pub FailsWithin : {A : Type 0} → ℕ → Result A Fault → Reader → Type 0
+FailsWithin bit (Ok value) new = Unit {0}
+FailsWithin bit (Err Read) new = 8 * taken_by new < bit
+FailsWithin bit (Err fault) new = Unit {0}
+
+-- The source failed in a call that reads chunks of n bits, after `before` others of the number: the bytes taken from it end within
+-- the chunk that was read then, and each chunk before that one has its last bit set, so that the number goes on.
+pub record FailsInChunk (n before : ℕ) (old new : Reader) : Type 0 where
+  -- how many chunks the call had read
+  pub chunks : ℕ
+  pub few : (before + chunks) * (n - 1) < 64
+  pub within : 8 * taken_by new < old.position + n * chunks + n
+  pub go_on : TellsBytes old → (i : ℕ) → i < chunks → get_or old.left (n * i + (n - 1)) false ≡ true
+
+-- a call that reads chunks of n bits asks for bytes of one chunk at a time
+abbrev pub AsksByChunk : {A : Type 0} → (n before : ℕ) → Reader → Result A Fault → Reader → Type 0
+AsksByChunk n before old (Ok value) new = Unit {0}
+AsksByChunk n before old (Err Read) new = FailsInChunk n before old new
+AsksByChunk n before old (Err fault) new = Unit {0}
+
+-- a source was given back: its counts and accounts are as they were, and so are its bytes, if they were known
+pub record GivenBack (old new : Incoming) : Type 0 where
+  pub pulls : new.pulls ≡ old.pulls
+  pub failures : new.failures ≡ old.failures
+  pub tells : IsSome old.to_come → IsSome new.to_come
+  pub bytes : IsSome old.to_come → known_bytes new.to_come ≡ known_bytes old.to_come
+  pub accounts : (n : ℕ) (all : List ℕ) → SaysOf old.accounts n all → SaysOf new.accounts n all
+
+-- the source that a reader returns: the bytes of which it read all bits are taken, if it had not failed
+pub record Returned (r : Reader) (now : Incoming) : Type 0 where
+  pub spends : Spends r.incoming r.budget now 0
+  pub failed : r.live ≡ false → GivenBack r.incoming now
+  pub behind : r.live ≡ true → TellsBytes r → r.position < 8 * (r.extent.total - length (known_bytes now.to_come)) + 8

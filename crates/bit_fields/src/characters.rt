@@ -2,7 +2,7 @@
 
 ghost use Rattle.std.specs.Prelude.{◌≡◌, ◌+◌, ◌%◌, OnErr, OnOk};
 ghost use Rattle.bit_grammar.specs.Fields.{byte, char6};
-ghost use Rattle.bit_fields.specs.Reader.{Takes, IsOnly, NeedsNoMemory};
+ghost use Rattle.bit_fields.specs.Reader.{FailsWithin, Takes, IsOnly, NeedsNoMemory};
 
 use crate::fault::Fault;
 use crate::numbers::character;
@@ -18,6 +18,7 @@ impl<S: Source> BitReader<S> {
         ensures takes { Takes byte self.old result self.new }
         ensures only { IsOnly byte self.old result self.new }
         ensures memory { NeedsNoMemory result }
+        ensures asks { FailsWithin (self.old.position + 8) result self.new }
         ensures stays { OnErr result (self.new.position ≡ self.old.position) }
         ensures moves { OnOk result (self.new.position ≡ self.old.position + 8) }
     {
@@ -28,10 +29,12 @@ impl<S: Source> BitReader<S> {
     /// Reads a character in six bits and returns its ASCII code: a letter, a digit, '.' or '_'. Source: "6-bit characters".
     ///
     /// Fewer bits are `Truncated` at the first bit of the field.
+    #[inline(always)]
     pub fn char6(&mut self) -> Result<u64, Fault>
         ensures takes { Takes char6 self.old result self.new }
         ensures only { IsOnly char6 self.old result self.new }
         ensures memory { NeedsNoMemory result }
+        ensures asks { FailsWithin (self.old.position + 6) result self.new }
         ensures stays { OnErr result (self.new.position ≡ self.old.position) }
         ensures moves { OnOk result (self.new.position ≡ self.old.position + 6) }
     {

@@ -2,14 +2,14 @@
 //! call takes what a rule of `bit_grammar` reads. Begin with `BitReader::start`, which reads the wrapper and the magic of a
 //! `Source` under `Limits`, and with `BitWriter::new` over a `Sink`.
 //!
-//! Four layers, each with its own model: `Window` (up to 64 bits in a word; all masks and shifts are here), `Inflow` (a source, a
-//! window, the bytes loaded, the end and the limit on bytes), `BitReader` (position, and whether it is live) and, for output,
-//! `BitWriter`. The clause of a reading call is `Takes` in `specs/Reader`; `Spends` and `Fails` in `specs/Devices` say what it
-//! asked of the source. The crates above use these and the lemmas of `proofs/Composing`.
+//! Three layers, each with its own model: `Inflow` (a source, the bytes that were taken from it and those that it lends, the end and the
+//! limit on bytes), `BitReader` (position, and whether it is live) and, for output, `BitWriter` over a `Window` of 64 bits. The clause
+//! of a reading call is `Takes` in `specs/Reader`; `Spends` and `Fails` in `specs/Devices` say what it asked of the source. The crates
+//! above use these and the lemmas of `proofs/Composing`.
 //!
-//! `BitReader::buffered_parts` lends the buffered bits, `Buffered` reads fields from them with its state in registers, and
-//! `BitReader::catch_up` takes what was read. `Buffered` judges nothing: it reads complete fields and declines the rest. Its clause
-//! (`Reads`) covers successes only. A reader of a slice lends its bits for as long as the slice lives (`parts_in_slice`).
+//! `BitReader::bits` shows the bits that are there, and asks the source for nothing. `PlacedBits` reads fields from them, and
+//! `BitReader::catch_up` moves on by those that were read. `PlacedBits` judges nothing: it reads complete fields and declines the
+//! rest. Its clause (`Reads`) covers successes only.
 //!
 //! The values of a record go to a `ValueTaker`: `Vec<u64>` keeps them, `ValueCount` counts them, `PackedValues` keeps them in 1,
 //! 2 or 10 bytes each, and `ExpectedValues` compares them with another record's. `KeptSource` keeps the bytes that its source gives,
@@ -17,7 +17,6 @@
 //! `BitText` holds bits in memory: bytes in chunks of 1 MiB, which grow without a copy.
 #![tactic(auto)]
 
-mod buffered;
 mod characters;
 mod expected;
 mod fault;
@@ -46,7 +45,6 @@ mod writer;
 mod writer_laws;
 
 pub use bit_grammar::{MOST_BYTES, MOST_DEPTH, MOST_VALUES, Reason, Shapes};
-pub use buffered::{Buffered, BufferedParts};
 pub use expected::ExpectedValues;
 pub use fault::Fault;
 pub use front::FrontSource;

@@ -5,9 +5,6 @@ ghost use Rattle.bit_grammar.specs.Terms.{character};
 
 use crate::width::ChunkWidth;
 
-/// The greatest width of chunks that are read four at once.
-pub const MOST_SHORT: u32 = 14;
-
 /// Whether the stream of a wrapper may begin at a byte.
 pub fn is_lawful(offset: u64) -> bool
     ensures { result ≡ (nat_le 20 offset && (offset % 4 == 0)) }

@@ -7,6 +7,7 @@ ghost use Rattle.std.specs.Prelude.{◌+◌, ◌*◌, ◌<◌, ◌≤◌, ◌^�
 ghost use Rattle.bit_fields.specs.Placed.{AreTops, Shows, bits_at};
 
 mod bits;
+mod fields;
 mod loads;
 mod numbers;
 mod tops;

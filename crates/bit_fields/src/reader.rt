@@ -1,23 +1,25 @@
-ghost use Rattle.std.specs.Prelude.{◌≡◌, ◌+◌, ◌*◌, ◌-◌, ◌<◌, ◌≤◌, ◌^◌, ◌%◌, length, true, false, take, OnErr, OnOk, IfOk, IfErr, IfSome, MatchOption};
-ghost use Rattle.bit_grammar.specs.Fields.{fixed, vbr, align32, chunks, zeros};
+ghost use Rattle.std.specs.Prelude.{ℕ, ◌≡◌, ◌+◌, ◌*◌, ◌-◌, ◌<◌, ◌≤◌, ◌^◌, ◌/◌, ◌%◌, length, true, false, take, OnErr, OnOk, IfOk, IfErr, IfSome, MatchOption, ◌⊎◌};
+ghost use Rattle.bit_grammar.specs.Fields.{fixed, vbr, align32, chunks, padding_length, zeros};
 ghost use Rattle.bit_grammar.specs.Terms.{chunk_limit};
 ghost use Rattle.bit_grammar.specs.Grammar.{at, test};
-ghost use Rattle.bit_grammar.specs.Bits.{bits_of};
-ghost use Rattle.bit_fields.specs.Buffered.{Sees};
+ghost use Rattle.std.specs.Borrow.{sem};
+ghost use Rattle.std.specs.Io.BufRead.{Rests};
+ghost use Rattle.bit_fields.specs.Buffered.{ShowsBits, reader_further};
+ghost use Rattle.bit_fields.specs.Devices.{Fails};
+ghost use Rattle.bit_fields.specs.PlacedView.{placed};
 ghost use Rattle.bit_grammar.specs.Input.{version, offset, wrapper, any_bits, inner_magic};
-ghost use Rattle.bit_fields.specs.Reader.{Extent, Takes, Took, Why, IsOnly, NeedsNoMemory, within, told_by, failed_reader, stopped_at};
+ghost use Rattle.bit_fields.specs.Reader.{Extent, AsksByChunk, EndsAfter, FailsWithin, Returned, TellsBytes, Takes, Took, Why, IsOnly, NeedsNoMemory, within, told_by, failed_reader, stopped_at};
 ghost use Rattle.bit_fields.specs.Short.{TookNothing};
 ghost use Rattle.bit_fields.specs.Opening.{fresh, OpenedInput, Declines, Opens, wrapper_told};
 ghost use Rattle.bit_fields.specs.Ending.{reach_of, LooksForEnd, Closes, IsThrough};
-ghost use Rattle.bit_fields.specs.Inside.{part_of, number_above, fault_of_missing, TookZeros};
-
-mod buffered_parts;
+ghost use Rattle.bit_fields.specs.Inside.{gap_of, part_of, number_above, fault_of_missing, TookGap, TookZeros};
 
 use crate::fault::Fault;
 use crate::head::{Head, Wrapper};
 use crate::inflow::{Inflow, Missing};
 use crate::limits::Limits;
 use crate::numbers::{is_lawful, payload_of, worth_at};
+use crate::placed::PlacedBits;
 use crate::source::Source;
 use crate::width::ChunkWidth;
 use bit_grammar::{Reason, WRAPPER_MAGIC};
@@ -46,6 +48,8 @@ impl<S: Source> Model for BitReader<S> {
 }
 
 impl<S: Source> BitReader<S> {
+    ghost use Rattle.bit_fields.specs.contracts.reader.BitReader.{the_row};
+
     /// Begins the stream of a source: reads its wrapper, if there is one, and the magic of the stream, and returns them as the
     /// head. The reader is then after the magic, at a multiple of 32 bits. Sources: "Magic Numbers", "Bitcode Wrapper Format".
     ///
@@ -79,6 +83,7 @@ impl<S: Source> BitReader<S> {
         requires end { self.old.extent.end ≡ 2 ^ 64 - 1 }
         ensures opens { Opens self.old result self.new }
         ensures place { OnOk result (self.new.position % 32 ≡ 0) }
+        ensures failed { OnErr result (self.new.live ≡ false) }
     {
         let first = self.fixed(32)?;
         if first != WRAPPER_MAGIC {
@@ -89,7 +94,7 @@ impl<S: Source> BitReader<S> {
         }
         let wrapper = self.wrapper()?;
         // the gap begins here, at or before the end of the input
-        let _start = self.position;
+        let _start = self.position();
         self.gap(wrapper.offset)?;
         self.end_after(wrapper.offset, wrapper.size);
         let magic = self.inner_magic()?;
@@ -154,7 +159,7 @@ impl<S: Source> BitReader<S> {
         ensures memory { NeedsNoMemory result }
         ensures place { OnOk result (self.new.position ≡ 8 * offset) }
     {
-        self.catch_up(8 * u64::from(offset - 20))
+        self.skip(8 * u64::from(offset - 20))
     }
 
     /// Ends the stream `size` bytes after the byte at `offset`, which is the reader's position.
@@ -162,11 +167,9 @@ impl<S: Source> BitReader<S> {
         requires live { self.old.live ≡ true }
         requires position { self.old.position ≡ 8 * offset }
         requires end { self.old.extent.end ≡ 2 ^ 64 - 1 }
-        ensures { self.new ≡ record self.old {
-          left = take (8 * size) self.old.left;
-          extent = record self.old.extent { end = offset + size };
-        } }
+        ensures { EndsAfter (offset + size) (8 * size) self.old self.new }
     {
+        self.inflow.is_flow();
         self.inflow.shorten(u64::from(offset) + u64::from(size));
     }
 
@@ -202,19 +205,26 @@ impl<S: Source> BitReader<S> {
         Err(self.fail(Fault::Refused { reason, bit }))
     }
 
-    /// Returns the source in its present state.
+    /// Returns the source. Unless the reader has failed, the bytes of which it read all bits are taken from it first, and then it may
+    /// fail.
     pub fn into_source(self) -> S
-        ensures { S.incoming result ≡ self.incoming }
+        ensures { Returned self (S.incoming result)
+            ⊎ ((self.live ≡ true) × Fails self.incoming self.budget (S.incoming result) 0) }
     {
-        self.inflow.into_source()
+        if self.live {
+            self.inflow.into_source()
+        } else {
+            self.inflow.release()
+        }
     }
 
     /// The bit at which the unread input begins, counted from the first bit of the input.
     pub fn position(&self) -> u64
         ensures position { result ≡ self.now.position }
-        ensures reach { self.now.live ≡ true → result + length self.now.left
-            ≡ reach_of self.now.extent }
+        ensures reach { self.now.live ≡ true → TellsBytes self.now
+            → result + length self.now.left ≡ reach_of self.now.extent }
     {
+        self.inflow.is_flow();
         self.position
     }
 
@@ -235,7 +245,6 @@ impl<S: Source> BitReader<S> {
     {
         self.live = false;
         self.position = first;
-        self.inflow.clear();
     }
 
     /// Fails because bits of a field that began at `first` are missing.
@@ -274,47 +283,145 @@ impl<S: Source> BitReader<S> {
         requires first { first ≤ self.old.position }
         ensures takes { Takes (part_of first n) self.old result self.new }
         ensures memory { NeedsNoMemory result }
+        ensures asks { FailsWithin (self.old.position + n) result self.new }
         ensures below { IfOk result (λ value. value < 2 ^ n) }
         ensures stays { self.old.live ≡ true → OnErr result (self.new.position ≡ first) }
         ensures moves { OnOk result (self.new.position ≡ self.old.position + n) }
     {
-        if self.inflow.bits_held() < n {
-            if !self.live {
-                return Err(Fault::Failed);
-            }
-            match self.inflow.fill(n) {
-                Ok(()) => {}
-                Err(missing) => return Err(self.miss(missing, first)),
-            }
+        if self.live && self.inflow.holds(n) {
+            let value = self.inflow.held_front(n);
+            self.inflow.advance(u64::from(n));
+            self.position += u64::from(n);
+            return Ok(value);
         }
-        let value = self.inflow.take(n);
-        self.position += u64::from(n);
-        Ok(value)
+        self.late_part(n, first)
     }
 
-    /// The next n bits as a number, n from 1 to 32, if the reader holds them already: it asks its source for nothing.
-    #[inline(always)]
-    pub fn peek(&self, n: u32) -> Option<u64>
+    /// The same, also where the bits are not in the carry.
+    #[cold]
+    #[inline(never)]
+    fn late_part(&mut self, n: u32, first: u64) -> Result<u64, Fault>
         requires some { 0 < n }
         requires few { n ≤ 32 }
-        ensures { IfSome result (λ value. Sees self.now
-            (record { position = self.now.position; bits = bits_of n value })) }
+        ensures takes { Takes (part_of first n) self.old result self.new }
+        ensures memory { NeedsNoMemory result }
+        ensures asks { FailsWithin (self.old.position + n) result self.new }
+        ensures below { IfOk result (λ value. value < 2 ^ n) }
+        ensures stays { self.old.live ≡ true → OnErr result (self.new.position ≡ first) }
+        ensures moves { OnOk result (self.new.position ≡ self.old.position + n) }
     {
-        if self.inflow.bits_held() < n {
-            return None;
+        if !self.live {
+            return Err(Fault::Failed);
         }
-        Some(self.inflow.peek(n))
+        match self.inflow.take_late(n) {
+            Ok(value) => {
+                self.position += u64::from(n);
+                Ok(value)
+            }
+            Err(missing) => Err(self.miss(missing, first)),
+        }
+    }
+
+    /// The bits that are there, possibly none. The source is asked for nothing.
+    #[inline(always)]
+    pub fn bits(&mut self) -> PlacedBits<'_>
+        ensures* shows { sem 𝓛 (Rests (the_row S.row S.Source) self.entry
+            (λ new. ShowsBits self.old (placed result) new)) }
+    {
+        if self.is_live() {
+            self.live_bits()
+        } else {
+            self.no_bits()
+        }
+    }
+
+    /// The bits that are there, of a live reader.
+    #[inline(always)]
+    fn live_bits(&mut self) -> PlacedBits<'_>
+        requires live { self.old.live ≡ true }
+        ensures* shows { sem 𝓛 (Rests (the_row S.row S.Source) self.entry
+            (λ new. ShowsBits self.old (placed result) new)) }
+    {
+        self.inflow.bits()
+    }
+
+    /// No bits.
+    #[inline(always)]
+    fn no_bits(&mut self) -> PlacedBits<'_>
+        ensures* shows { sem 𝓛 (Rests (the_row S.row S.Source) self.entry
+            (λ new. ShowsBits self.old (placed result) new)) }
+    {
+        PlacedBits::none(self.position)
+    }
+
+    /// Moves on by bits that are there. The source is asked for nothing.
+    #[inline(always)]
+    pub fn catch_up(&mut self, bits: u64)
+        requires { bits ≤ self.old.there }
+        ensures { self.new ≡ reader_further self.old bits }
+    {
+        if self.live {
+            self.inflow.advance(bits);
+            self.position += bits;
+        }
+    }
+
+    /// Skips `bits` bits, whatever they are.
+    ///
+    /// Fewer bits are `Truncated` at the first of them.
+    fn skip(&mut self, bits: u64) -> Result<(), Fault>
+        ensures takes { Takes (any_bits bits) self.old result self.new }
+        ensures memory { NeedsNoMemory result }
+        ensures stays { OnErr result (self.new.position ≡ self.old.position) }
+        ensures moves { OnOk result (self.new.position ≡ self.old.position + bits) }
+    {
+        if !self.live {
+            return Err(Fault::Failed);
+        }
+        let first = self.position;
+        let mut left = bits;
+        while left > 0 {
+            let count = self.skip_some(first, first, left)?;
+            left -= count;
+        }
+        Ok(())
+    }
+
+    /// Skips bits, at least one and at most `most`, of what began at `first`, and returns how many. If no bit is left it fails, at
+    /// the first bit of `field`, to which the next bit belongs.
+    fn skip_some(&mut self, first: u64, field: u64, most: u64) -> Result<u64, Fault>
+        requires live { self.old.live ≡ true }
+        requires first { first ≤ self.old.position }
+        requires some { 0 < most }
+        ensures takes { IfOk result (λ count. TookGap field most count self.old self.new) }
+        ensures misses { IfErr result (λ fault. Why (gap_of field 1) self.old fault self.new) }
+        ensures memory { NeedsNoMemory result }
+        ensures stays { OnErr result (self.new.position ≡ first) }
+    {
+        match self.inflow.skip(most) {
+            Ok(count) => {
+                self.position += count;
+                Ok(count)
+            }
+            Err(missing) => {
+                let fault = self.fault_of(missing, field);
+                Err(self.fail_at(fault, first))
+            }
+        }
     }
 
     /// Reads a number of n bits, n from 1 to 32, the lowest bit first. Source: "Fixed Width Integers".
     ///
-    /// Fewer bits are `Truncated` at the first bit of the field.
+    /// Fewer bits are `Truncated` at the first bit of the field. The source is asked only while bits of the field are
+    /// missing.
+    #[inline(always)]
     pub fn fixed(&mut self, n: u32) -> Result<u64, Fault>
         requires some { 0 < n }
         requires few { n ≤ 32 }
         ensures takes { Takes (fixed n) self.old result self.new }
         ensures only { IsOnly (fixed n) self.old result self.new }
         ensures memory { NeedsNoMemory result }
+        ensures asks { FailsWithin (self.old.position + n) result self.new }
         ensures below { IfOk result (λ value. value < 2 ^ n) }
         ensures stays { OnErr result (self.new.position ≡ self.old.position) }
         ensures moves { OnOk result (self.new.position ≡ self.old.position + n) }
@@ -327,7 +434,8 @@ impl<S: Source> BitReader<S> {
     /// payload, the lowest first. Source: "Variable Width Integers".
     ///
     /// An incomplete chunk is `Truncated` at the first bit of the number. A complete chunk with a payload bit at place 64 or above,
-    /// or more chunks than 64 bits take, is `ValueTooWide` there.
+    /// or more chunks than 64 bits take, is `ValueTooWide` there. Bytes are asked for only while bits of a chunk are missing, and of
+    /// the next chunk only after a chunk that goes on.
     #[inline(always)]
     pub fn vbr(&mut self, n: u32) -> Result<u64, Fault>
         requires some { 2 ≤ n }
@@ -335,6 +443,7 @@ impl<S: Source> BitReader<S> {
         ensures takes { Takes (vbr n) self.old result self.new }
         ensures only { IsOnly (vbr n) self.old result self.new }
         ensures memory { NeedsNoMemory result }
+        ensures asks { AsksByChunk n 0 self.old result self.new }
         ensures stays { OnErr result (self.new.position ≡ self.old.position) }
     {
         let first = self.position;
@@ -356,6 +465,7 @@ impl<S: Source> BitReader<S> {
             (chunks (n.bits - 1) first (chunk_limit (n.bits - 1) - 1) (64 - (n.bits - 1)))) self.old result
             self.new }
         ensures memory { NeedsNoMemory result }
+        ensures asks { AsksByChunk n.bits 1 self.old result self.new }
         ensures stays { OnErr result (self.new.position ≡ first) }
     {
         let too_wide = Fault::Refused {
@@ -380,11 +490,13 @@ impl<S: Source> BitReader<S> {
 
     /// Reads zeros up to the next position that is a multiple of 32, possibly none. Source: "Abbreviation IDs", align32.
     ///
-    /// A one is `DirtyPadding` at that bit; fewer bits are `Truncated` at the first bit of the padding.
+    /// A one is `DirtyPadding` at that bit; fewer bits are `Truncated` at the first bit of the padding. Bytes are asked for only while
+    /// the next bit of the padding is missing.
     pub fn pad(&mut self) -> Result<(), Fault>
         ensures takes { Takes align32 self.old result self.new }
         ensures only { IsOnly align32 self.old result self.new }
         ensures memory { NeedsNoMemory result }
+        ensures asks { FailsWithin (self.old.position + padding_length self.old.position) result self.new }
         ensures stays { OnErr result (self.new.position ≡ self.old.position) }
         ensures aligned { OnOk result (self.new.position % 32 ≡ 0) }
     {
@@ -409,16 +521,35 @@ impl<S: Source> BitReader<S> {
         ensures takes { IfOk result (λ count. TookZeros first most count self.old self.new) }
         ensures misses { IfErr result (λ fault. Why (zeros first most) self.old fault self.new) }
         ensures memory { NeedsNoMemory result }
+        ensures asks { FailsWithin (self.old.position + most) result self.new }
         ensures stays { OnErr result (self.new.position ≡ first) }
     {
-        let count = self.inflow.bits_held().min(most);
-        if count == 0 || self.inflow.peek(count) != 0 {
-            self.one_zero(first)?;
-            return Ok(1);
+        let count = self.held_zeros(most);
+        if count > 0 {
+            return Ok(count);
         }
-        self.inflow.take(count);
-        self.position += u64::from(count);
-        Ok(count)
+        self.one_zero(first)?;
+        Ok(1)
+    }
+
+    /// Takes the bits that are there, at most `most`, if they are zeros, and returns how many. The source is asked for nothing.
+    fn held_zeros(&mut self, most: u32) -> u32
+        requires few { most < 32 }
+        requires live { self.old.live ≡ true }
+        ensures some { 0 < result → (first : ℕ) → TookZeros first most result self.old self.new }
+        ensures none { result ≡ 0 → TookNothing self.old self.new }
+        ensures place { self.new.position ≡ self.old.position + result }
+    {
+        let count = self.inflow.there().min(u64::from(most)) as u32;
+        if count == 0 {
+            return 0;
+        }
+        if let Some(0) = self.inflow.front(count) {
+            self.inflow.advance(u64::from(count));
+            self.position += u64::from(count);
+            return count;
+        }
+        0
     }
 
     /// Takes one zero of a padding that began at `first`.
@@ -427,6 +558,7 @@ impl<S: Source> BitReader<S> {
         requires live { self.old.live ≡ true }
         ensures takes { Takes (zeros first 1) self.old result self.new }
         ensures memory { NeedsNoMemory result }
+        ensures asks { FailsWithin (self.old.position + 1) result self.new }
         ensures stays { OnErr result (self.new.position ≡ first) }
         ensures moves { OnOk result (self.new.position ≡ self.old.position + 1) }
     {
@@ -444,23 +576,25 @@ impl<S: Source> BitReader<S> {
 
     /// Returns whether the stream has no byte left. The position is a multiple of 8.
     ///
-    /// `TooLong` if the position is 8 times the limit on bytes and the stream goes on.
+    /// `TooLong` if the position is 8 times the limit on bytes and the stream goes on. The source is asked only if no bit is there.
     pub fn at_end(&mut self) -> Result<bool, Fault>
         requires { self.old.position % 8 ≡ 0 }
         ensures looks { LooksForEnd self.old result self.new }
         ensures through { IfOk result (λ end. end ≡ true → IsThrough self.new) }
+        ensures asks { FailsWithin (self.old.position + 1) result self.new }
         ensures stays { self.new.position ≡ self.old.position }
     {
-        if self.inflow.bits_held() > 0 {
-            return Ok(false);
-        }
         if !self.live {
             return Err(Fault::Failed);
         }
         let first = self.position;
-        match self.inflow.fill(1) {
-            Ok(()) => Ok(false),
-            Err(Missing::End) => Ok(true),
+        self.inflow.is_flow();
+        match self.inflow.wait() {
+            Ok(_) => Ok(false),
+            Err(Missing::End) => {
+                self.inflow.is_flow();
+                Ok(true)
+            }
             Err(Missing::Limit) => Err(self.miss(Missing::Limit, first)),
             Err(Missing::Read) => Err(self.miss(Missing::Read, first)),
         }
@@ -479,22 +613,32 @@ impl<S: Source> BitReader<S> {
             return Err(Fault::Failed);
         }
         self.live = false;
-        self.inflow.clear();
-        let end = self.inflow.end();
-        if end < u64::MAX && self.position / 8 < end {
+        self.inflow.is_flow();
+        if !self.fills_wrapper() {
             return Err(Fault::Refused {
                 reason: Reason::WrapperSize,
                 bit: 96,
             });
         }
         match self.inflow.drain() {
-            Ok(()) => Ok(()),
-            Err(Missing::Limit) => Err(Fault::Refused {
-                reason: Reason::TooLong,
-                bit: 8 * self.inflow.limit(),
-            }),
-            Err(_) => Err(Fault::Read),
+            Ok(()) => {}
+            Err(missing) => return Err(self.fault_of(missing, self.position)),
         }
+        Ok(())
+    }
+
+    /// Whether the bytes before the position fill the wrapper of the stream, if it has one.
+    fn fills_wrapper(&self) -> bool
+        ensures yes { result ≡ true → self.now.extent.end < 2 ^ 64 - 1
+            → self.now.extent.end ≤ self.now.position / 8 }
+        ensures no { result ≡ false → (self.now.extent.end < 2 ^ 64 - 1)
+            × (self.now.position / 8 < self.now.extent.end) }
+    {
+        let end = self.inflow.end();
+        if end == u64::MAX {
+            return true;
+        }
+        end <= self.position / 8
     }
 
     /// Marks the reader as failed, for a judgement of the caller's, and returns the fault.

@@ -4,10 +4,9 @@ ghost use Rattle.std.specs.IoError.{error_kind};
 ghost use Rattle.std.specs.Io.{ReadsAtMost};
 ghost use Rattle.std.specs.Io.BufRead.{Rests};
 ghost use Rattle.std.specs.Io.KnownBytes.{ReadConsumes};
-ghost use Rattle.bit_fields.specs.Devices.{Begins, GaveNone, IsFresh, IsWorn, Looked, PullsWord};
+ghost use Rattle.bit_fields.specs.Devices.{Begins, IsFresh, IsWorn, Looked};
 ghost use Rattle.bit_fields.specs.Readers.{FailedOf};
 
-use crate::word::word_of;
 use std::io;
 use std::io::{BufRead, Error as IoError, ErrorKind, Read};
 use thiserror::Error;
@@ -67,44 +66,6 @@ pub trait Source {
         let room = most.min(BLOCK);
         self.pull(&mut bytes[..room])
     }
-}
-
-/// The next eight bytes, if that many are buffered. None is taken.
-#[inline(always)]
-fn eight_buffered<S: Source>(source: &mut S) -> Result<Option<[u8; 8]>, SourceFailed>
-    ensures looked { OnOk result (Looked (S.incoming source.old) (S.incoming source.new)) }
-    ensures front { IfOk result (λ found. IfSome found
-        (λ eight. Begins (S.incoming source.old).to_come eight)) }
-    ensures long { IfOk result (λ found. IfSome found (λ eight. length eight ≡ 8)) }
-    ensures failed { OnErr result (GaveNone (S.incoming source.old) (S.incoming source.new)) }
-{
-    if !source.look()? {
-        return Ok(None);
-    }
-    let bytes = source.lend();
-    if bytes.len() < 8 {
-        return Ok(None);
-    }
-    Ok(Some([
-        bytes[0], bytes[1], bytes[2], bytes[3], bytes[4], bytes[5], bytes[6], bytes[7],
-    ]))
-}
-
-/// Takes the next bytes, at most `room`, from 1 to 8, as a word, the first byte lowest and zeros after the last, and returns it
-/// with how many bytes it has; 0 means the end. It is one pull, and fails as `Source::pull` does.
-#[inline]
-pub fn pull_word<S: Source>(source: &mut S, room: usize) -> Result<(u64, usize), SourceFailed>
-    requires some { 0 < room }
-    requires few { room ≤ 8 }
-    ensures { PullsWord room (S.incoming source.old) (S.incoming source.new) result }
-{
-    if let Some(eight) = eight_buffered(source)? {
-        let count = source.pass(room)?;
-        return Ok((word_of(eight, count), count));
-    }
-    let mut bytes = [0; 8];
-    let count = source.pull(&mut bytes[..room])?;
-    Ok((word_of(bytes, count), count))
 }
 
 /// A source over a slice of bytes. It fails only if it is exhausted.

@@ -16,17 +16,6 @@ pub fn word_of(bytes: [u8; 8], count: usize) -> u64
     word & mask
 }
 
-/// The first four bytes of a slice, which has them, as a word, the first one lowest. This is one load.
-#[inline(always)]
-pub fn four_of(bytes: &[u8]) -> u64
-    requires { 4 ≤ length bytes.now }
-    ensures below { result < 2 ^ 32 }
-    ensures bits { bits_of 32 result ≡ bits_of_bytes (take 4 bytes.now) }
-{
-    let four = [bytes[0], bytes[1], bytes[2], bytes[3]];
-    u64::from(u32::from_le_bytes(four))
-}
-
 /// The first eight bytes of a slice, which has them, as a word, the first one lowest. This is one load.
 #[inline(always)]
 pub fn eight_of(bytes: &[u8]) -> u64
@@ -37,4 +26,15 @@ pub fn eight_of(bytes: &[u8]) -> u64
         bytes[0], bytes[1], bytes[2], bytes[3], bytes[4], bytes[5], bytes[6], bytes[7],
     ];
     word_of(eight, 8)
+}
+
+/// The first eight bytes of a slice, which has them.
+#[inline(always)]
+pub fn first_eight(bytes: &[u8]) -> [u8; 8]
+    requires { 8 ≤ length bytes.now }
+    ensures { result ≡ take 8 bytes.now }
+{
+    [
+        bytes[0], bytes[1], bytes[2], bytes[3], bytes[4], bytes[5], bytes[6], bytes[7],
+    ]
 }

@@ -11,11 +11,11 @@ ghost use Rattle.bit_events.specs.Passing.{GathersRecords, PassesRecords, Passes
 ghost use Rattle.bit_norm.specs.Building.{HasTaken, record_left, AddsRecord, GrowsTo, IsFormOf, StaysAs, BuildsBlock, BuildsEnd, BuildsRecord, IsTooLong, IsWholeForm};
 ghost use Rattle.bit_norm.specs.Writing.{record_front, record_text, enter_text};
 
-use crate::form_run::{End, SHORT, write_records};
+use crate::form_run::{SHORT, Storing};
 use crate::form_values::{FormValues, is_long};
-use bit_abbrev::{Abbrev, Definitions, InForce, Layout};
-use bit_events::{Gatherer, OpenBlocks, PassedRun};
-use bit_fields::{BitText, Limits, PlacedBits};
+use bit_abbrev::{BlockDefinitions, Coming, HeldOps, InForce};
+use bit_events::{Gatherer, OpenBlocks, PassedRun, Uncounted, walk_run};
+use bit_fields::{BitText, Limits};
 use bit_tree::Info;
 use std::alloc::{AllocError, Global};
 
@@ -49,7 +49,6 @@ fn close_block(text: &mut BitText, hole: u64) -> Result<(), AllocError>
 }
 
 /// Adds what comes in a record before its values.
-#[tactic(auto, using(crate::proofs::ValueTexts::front_few))]
 fn add_record_head(text: &mut BitText, code: u64, count: u64) -> Result<(), AllocError>
     requires { length text.old < 2 ^ 38 }
     ensures ok { OnOk result (text.new ≡ text.old ++ record_front code count) }
@@ -60,7 +59,6 @@ fn add_record_head(text: &mut BitText, code: u64, count: u64) -> Result<(), Allo
 
 /// Adds a record of few values.
 #[inline(always)]
-#[tactic(auto, using(crate::proofs::ValueTexts::entry_few))]
 fn add_short_record(text: &mut BitText, code: u64, values: &[u64]) -> Result<(), AllocError>
     requires few { length text.old < 2 ^ 38 }
     requires short { length values.now ≤ 64 }
@@ -87,7 +85,6 @@ fn add_record(
 
 /// Adds a record of any number of values in pieces, until the text is longer than the limit on bytes. Returns whether it is whole.
 #[inline(never)]
-#[tactic(auto, using(crate::proofs::ValueTexts::values_few))]
 fn add_pieces(
     text: &mut BitText,
     limits: Limits,
@@ -152,7 +149,6 @@ impl<'a> FormBuilder<'a> {
     }
 
     /// The text, or `None` if the form is longer than the limit on bytes.
-    #[tactic(auto, using(crate::proofs::Building::whole_text, crate::proofs::Building::passes_whole))]
     pub(crate) fn finish(self) -> Option<BitText>
         ensures form { (first : FormBuilder) (events : List Event)
             → IsFormOf first events self.entry → left_open events ≡ 0
@@ -290,10 +286,8 @@ impl<'a> FormBuilder<'a> {
     #[inline(always)]
     fn add_run(
         &mut self,
-        bits: PlacedBits<'_>,
-        width: u32,
-        definitions: &Definitions<'_>,
-        room: u64,
+        next: Coming<'_>,
+        definitions: &InForce<'_>,
     ) -> Result<PassedRun, AllocError>
         requires width { width ≤ 32 }
         requires short { self.old.long ≡ false }
@@ -302,49 +296,40 @@ impl<'a> FormBuilder<'a> {
             × PassesRecords width definitions.now room (placed bits.entry) records run
             × GathersRecords IsFormOf self.old records self.new)) }
     {
-        let mut bits = bits;
-        let mut room = room;
+        let mut next = next;
         while !is_long(&self.text, self.limits) {
             let (lent, at) = self.text.lend(LENT)?;
             let mut bytes = lent;
             let most = (8 * self.limits.bytes() + 7).saturating_sub(self.text.len());
             let last = most.min(8 * bytes.len() as u64 - SHORT);
-            let run = write_records(&mut bytes, at, last, bits, width, definitions, room);
-            self.text.give_back(bytes, run.pen)?;
-            bits = run.bits;
-            room = run.room;
-            if run.end != End::Full {
-                return Ok(PassedRun {
-                    after: bits.position(),
-                    room,
-                    is_over: run.end == End::Over,
-                });
+            let by = Storing { last, definitions };
+            next.at = at;
+            let run = walk_run(by, &mut bytes, next, &mut Uncounted)?;
+            self.text.give_back(bytes, run.at)?;
+            if run.at <= last {
+                return Ok(run);
             }
+            next.bits = next.bits.at(run.after);
+            next.room = run.room;
         }
-        Ok(PassedRun {
-            after: bits.position(),
-            room,
-            is_over: false,
-        })
+        Ok(PassedRun::none(next))
     }
 
     /// Adds the records that come first in these bits, as many as it likes, if all records of their block are kept.
     #[inline(always)]
     fn pass_run(
         &mut self,
-        bits: PlacedBits<'_>,
-        width: u32,
-        definitions: &InForce,
-        room: u64,
+        next: Coming<'_>,
+        definitions: BlockDefinitions<'_>,
     ) -> Result<PassedRun, AllocError>
         requires width { width ≤ 32 }
         ensures { IfOk result (λ run. PassesRun IsFormOf width definitions.now.all room (placed bits.entry)
             self.old run self.new) }
     {
         if self.long || !self.standing.is_whole() {
-            return Ok(PassedRun::none(bits, room));
+            return Ok(PassedRun::none(next));
         }
-        self.add_run(bits, width, &definitions.all(), room)
+        self.add_run(next, &definitions.in_force())
     }
 }
 
@@ -369,12 +354,7 @@ impl<'a> Gatherer for FormBuilder<'a> {
         Ok(())
     }
 
-    #[inline(always)]
-    fn defined(&mut self, _first: u64, _after: u64) -> Result<bool, AllocError> {
-        Ok(true)
-    }
-
-    fn define(&mut self, _abbrev: &Abbrev, _first: u64, _after: u64) -> Result<(), AllocError> {
+    fn define(&mut self, _ops: HeldOps<'_>, _first: u64, _after: u64) -> Result<(), AllocError> {
         Ok(())
     }
 
@@ -399,19 +379,8 @@ impl<'a> Gatherer for FormBuilder<'a> {
     }
 
     #[inline(always)]
-    fn by_plans(&self) -> bool {
-        false
-    }
-
-    #[inline(always)]
-    fn pass(
-        &mut self,
-        bits: PlacedBits<'_>,
-        width: u32,
-        definitions: &InForce,
-        room: u64,
-    ) -> Result<PassedRun, AllocError> {
-        self.pass_run(bits, width, definitions, room)
+    fn pass(&mut self, next: Coming<'_>, definitions: BlockDefinitions<'_>) -> Result<PassedRun, AllocError> {
+        self.pass_run(next, definitions)
     }
 
     fn leave(&mut self, _after: u64) -> Result<(), AllocError> {

@@ -20,13 +20,13 @@ use crate::magics::{magic_bit, magic_standing};
 use crate::sign::Sign;
 use crate::walk::{Walk, one_more};
 use crate::writing::number_of_magic;
-use bit_abbrev::{Abbrev, InForce};
+use bit_abbrev::{BlockDefinitions, Coming, HeldOps};
 use bit_events::{
     CountedRecord, Event, Folded, Gatherer, OpenBlocks, PackedEvent, PassedRun, RecordHead,
     RunCounter, SliceEvents, Uncounted, fold, pass_records,
 };
 use bit_fields::{
-    ExpectedValues, Fault, Head, Limits, PackedValues, PlacedBits, SliceSource, Source,
+    ExpectedValues, Fault, Head, Limits, PackedValues, SliceSource, Source,
 };
 use bit_tree::Info;
 use std::alloc::{AllocError, Global};
@@ -111,7 +111,6 @@ fn held_beside(own: Sign<'_>, bit: u64, ended: u64, sign: Sign<'_>, apart: &mut 
 }
 
 /// Compares an event that is kept with a sign. What comes before it ended at `ended`.
-#[tactic(auto, using(crate::proofs::InStep::begin_says, crate::proofs::InStep::record_says, crate::proofs::InStep::end_says))]
 fn weigh_left(event: PackedEvent<'_>, sign: Sign<'_>, ended: u64, apart: &mut Apart) -> Weighed
     ensures { IsBeside (said_of ended (event_shown event.entry)) (sign_shown sign.entry) result
         apart.new }
@@ -142,7 +141,6 @@ fn weigh_left(event: PackedEvent<'_>, sign: Sign<'_>, ended: u64, apart: &mut Ap
 }
 
 /// Compares an event with a sign, if it is kept, and updates the open blocks of the first input.
-#[tactic(auto, using(crate::proofs::InStep::left_says, crate::proofs::InStep::left_out_says))]
 fn weigh(
     event: PackedEvent<'_>,
     sign: Sign<'_>,
@@ -329,10 +327,9 @@ struct EqualRecords<'a> {
 impl<'a> RunCounter for EqualRecords<'a> {
     ghost use Rattle.bit_norm.specs.InFront.{CountsEqual};
 
-    ghost counted = { λ first records last. CountsEqual first records last };
 
     #[inline(always)]
-    fn count(&mut self, passed: CountedRecord) -> Result<bool, AllocError> {
+    fn count(&mut self, passed: CountedRecord, _values: &[u64]) -> Result<bool, AllocError> {
         if passed.after > self.equal {
             return Ok(false);
         }
@@ -417,10 +414,8 @@ impl<'a> Comparer<'a> {
     /// Passes over records in the same bytes.
     fn pass_equal(
         &mut self,
-        bits: PlacedBits<'_>,
-        width: u32,
-        definitions: &InForce,
-        room: u64,
+        next: Coming<'_>,
+        definitions: BlockDefinitions<'_>,
     ) -> Result<PassedRun, AllocError>
         requires width { width ≤ 32 }
         requires found { self.old.compared.found ≡ None }
@@ -435,7 +430,7 @@ impl<'a> Comparer<'a> {
             items: self.walk.items,
             ended: self.second_ended,
         };
-        let run = pass_records(bits, width, definitions, room, &mut equal)?;
+        let run = pass_records(next, definitions, &mut equal)?;
         self.passed = equal.passed;
         self.walk.items = equal.items;
         self.first_ended = equal.ended;
@@ -644,12 +639,7 @@ impl<'a> Gatherer for Comparer<'a> {
         Ok(())
     }
 
-    fn defined(&mut self, _first: u64, after: u64) -> Result<bool, AllocError> {
-        self.passes_event(after)?;
-        Ok(true)
-    }
-
-    fn define(&mut self, _abbrev: &Abbrev, _first: u64, after: u64) -> Result<(), AllocError> {
+    fn define(&mut self, _ops: HeldOps<'_>, _first: u64, after: u64) -> Result<(), AllocError> {
         self.passes_event(after)?;
         Ok(())
     }
@@ -677,20 +667,14 @@ impl<'a> Gatherer for Comparer<'a> {
         self.passed_to > 0
     }
 
-    fn pass(
-        &mut self,
-        bits: PlacedBits<'_>,
-        width: u32,
-        definitions: &InForce,
-        room: u64,
-    ) -> Result<PassedRun, AllocError> {
+    fn pass(&mut self, next: Coming<'_>, definitions: BlockDefinitions<'_>) -> Result<PassedRun, AllocError> {
         if self.passed_to == 0 {
-            return Ok(PassedRun::none(bits, room));
+            return Ok(PassedRun::none(next));
         }
         if self.found.is_some() {
-            return pass_records(bits, width, definitions, room, &mut Uncounted);
+            return pass_records(next, definitions, &mut Uncounted);
         }
-        self.pass_equal(bits, width, definitions, room)
+        self.pass_equal(next, definitions)
     }
 
     fn leave(&mut self, after: u64) -> Result<(), AllocError> {

@@ -8,9 +8,9 @@
 //! before the input is accepted. `FormWriter` is the same builder for callers that have a tree.
 //!
 //! `first_difference` reads the first input alone and keeps its bytes, and then compares the bytes that the second source lends with
-//! them (`alike`). If all are the same it is done. Else it reads the second from a source that gives the bytes that were taken again,
-//! in the slices that were lent (`Rejoined`), so that the second source is asked at the same places. Events up to the first other
-//! byte are passed over in both, and then both are read in step; behind a difference the second's events are passed over.
+//! them (`alike`). If all are the same it is done. Else it reads the second from a source that gives the bytes that were taken again
+//! (`Rejoined`). Events up to the first other byte are passed over in both, and then both are read in step; behind a difference the
+//! second's events are passed over.
 //! Both may come from one source, one after the other (`first_difference_in_parts`), and the first may be in memory. The trees are
 //! compared as sequences of entries, each with a place, a sign (a block's id, a record's code and values, an end) and a bit.
 //! `Comparer` gathers the second's events and compares each sign with the next entry of the first; until the first difference both
@@ -18,7 +18,6 @@
 //! its values are not held unless they differ. `same` is true if there is no first difference.
 #![tactic(auto)]
 
-mod again;
 mod alike;
 mod comparing;
 mod difference_laws;
@@ -36,8 +35,6 @@ mod form_writer_tests;
 mod in_step;
 #[cfg(test)]
 mod input_tests;
-#[cfg(test)]
-mod lendings;
 mod lengths;
 mod magics;
 mod normalising;

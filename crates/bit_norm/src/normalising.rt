@@ -15,9 +15,6 @@ use bit_fields::{BitText, BitWriter, Fault, Limits, Sink, Source};
 use bit_tree::Info;
 use std::alloc::Global;
 
-#[cfg(test)]
-mod asking_tests;
-
 /// Writes a magic and the text after it, and gives the sink all of it.
 fn write_text<K: Sink>(
     writer: &mut BitWriter<K>,

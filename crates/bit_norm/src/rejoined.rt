@@ -4,9 +4,9 @@ ghost use Rattle.std.specs.Prelude.{◌≡◌, ◌<◌, ◌≤◌, ◌+◌, ◌-
 ghost use Rattle.bit_fields.specs.Devices.{GaveNone, IsFresh, PullsUnseen};
 ghost use Rattle.bit_norm.specs.Rejoined.{rejoined_of, held_of, owed_of};
 
-use crate::again::{Again, Widths};
 use bit_fields::{Source, SourceFailed};
 
+<<<<<<< /tmp/o
 impl<'a> Again<'a> {
     /// Gives these bytes again in `count` slices of these widths, and then others.
     pub(crate) fn new(
@@ -22,9 +22,34 @@ impl<'a> Again<'a> {
     {
         Again::behind(&[], bytes, count, widths, next)
     }
+||||||| /tmp/b
+impl<'a> Again<'a> {
+    /// Gives these bytes again in `count` slices of these widths, and then others.
+    pub(crate) fn new(
+        bytes: &'a [u8],
+        count: usize,
+        widths: Widths<'a>,
+        next: &'a [u8],
+    ) -> Again<'a>
+    {
+        Again::behind(&[], bytes, count, widths, next)
+    }
+=======
+/// Bytes that are given again, and others behind them.
+#[derive(Clone, Copy)]
+pub(crate) struct Again<'a> {
+    /// What is given now,
+    slice: &'a [u8],
+    /// and what is given behind it.
+    next: &'a [u8],
+    ghost first: { length slice.now ≡ 0 → next.now ≡ [] },
+}
+>>>>>>> /tmp/t
 
-    /// Gives the rest of a slice again, the slices behind it, and then others.
+impl<'a> Again<'a> {
+    /// Gives these bytes again, and then others.
     #[inline(always)]
+<<<<<<< /tmp/o
     fn behind(
         slice: &'a [u8],
         rest: &'a [u8],
@@ -36,42 +61,25 @@ impl<'a> Again<'a> {
         requires none { more ≡ 0 → rest.now ≡ [] }
         ensures held { held_of result ≡ slice.now ++ (rest.now ++ next.now) }
         ensures owed { owed_of result ≡ min 1 (length slice.now) + (more + min 1 (length next.now)) }
+||||||| /tmp/b
+    fn behind(
+        slice: &'a [u8],
+        rest: &'a [u8],
+        more: usize,
+        widths: Widths<'a>,
+        next: &'a [u8],
+    ) -> Again<'a>
+=======
+    pub(crate) fn new(bytes: &'a [u8], next: &'a [u8]) -> Again<'a>
+>>>>>>> /tmp/t
     {
-        if !slice.is_empty() {
-            return Again {
-                slice,
-                rest,
-                more,
-                widths,
-                next,
-            };
-        }
-        if more == 0 {
+        if bytes.is_empty() {
             return Again {
                 slice: next,
-                rest,
-                more,
-                widths,
                 next: &[],
             };
         }
-        let mut widths = widths;
-        let width = widths.next();
-        // Each slice behind this one has a byte.
-        let most = rest.len() - (more - 1);
-        let width = if more == 1 {
-            most
-        } else {
-            width.max(1).min(most)
-        };
-        let (slice, rest) = rest.split_at(width);
-        Again {
-            slice,
-            rest,
-            more: more - 1,
-            widths,
-            next,
-        }
+        Again { slice: bytes, next }
     }
 
     /// Whether all were given.
@@ -84,6 +92,7 @@ impl<'a> Again<'a> {
     }
 
     /// Takes the next bytes of a slice, at most `most`; none only if there are none, or room for none.
+<<<<<<< /tmp/o
     fn take(&mut self, most: usize) -> &'a [u8]
         ensures held { held_of self.old ≡ result.now ++ held_of self.new }
         ensures few { length result.now ≤ most }
@@ -91,10 +100,17 @@ impl<'a> Again<'a> {
         ensures owed { owed_of self.old ≤ owed_of self.new + 1 }
         ensures fewer { owed_of self.new ≤ owed_of self.old }
     {
+||||||| /tmp/b
+    fn take(&mut self, most: usize) -> &'a [u8]
+    {
+=======
+    fn take(&mut self, most: usize) -> &'a [u8] {
+>>>>>>> /tmp/t
         let (given, left) = self.slice.split_at(most.min(self.slice.len()));
-        *self = Again::behind(left, self.rest, self.more, self.widths, self.next);
+        *self = Again::new(left, self.next);
         given
     }
+<<<<<<< /tmp/o
 
     /// The slice that is given next.
     #[inline(always)]
@@ -103,6 +119,16 @@ impl<'a> Again<'a> {
     {
         self.slice
     }
+||||||| /tmp/b
+
+    /// The slice that is given next.
+    #[inline(always)]
+    fn shown(&self) -> &'a [u8]
+    {
+        self.slice
+    }
+=======
+>>>>>>> /tmp/t
 }
 
 /// A source that gives these bytes again, and then the bytes of another one. It asks the other one for nothing before, and for
@@ -232,7 +258,7 @@ impl<'a, S: Source> Source for Rejoined<'a, S> {
             return &[];
         }
         if !self.again.is_over() {
-            return self.again.shown();
+            return self.again.slice;
         }
         self.source.lend()
     }

@@ -6,10 +6,16 @@ ghost use Rattle.bit_scan.specs.Cut.{capped_counts, cut_open};
 ghost use Rattle.bit_scan.specs.Rows.{block_tallies};
 
 use crate::rows::{Addition, BlockRow, BlockRows};
-use bit_abbrev::{Abbrev, InForce};
+use bit_abbrev::{BlockDefinitions, Coming, HeldOps};
 use bit_events::{Gatherer, PassedRun};
+<<<<<<< /tmp/o
 use bit_fields::{PlacedBits, ValueCount, ValueTaker};
 use indexmap::IndexMap;
+||||||| /tmp/b
+use bit_fields::{PlacedBits, ValueCount, ValueTaker};
+=======
+use bit_fields::{ValueCount, ValueTaker};
+>>>>>>> /tmp/t
 use std::alloc::{AllocError, Global};
 use std::hash::BuildHasher;
 use std::marker::Model;
@@ -102,7 +108,6 @@ impl<H: BuildHasher + Copy> Counter<H> {
 
     /// Counts an item of the innermost open block.
     #[inline(always)]
-    #[tactic(auto, using(crate::proofs::OpenBlocks::counted_here))]
     fn count_here(&mut self, addition: Addition) -> Result<(), AllocError>
         ensures { (counts : Counts) → self.old ≡ capped_counts counts
             → OnOk result (self.new ≡ capped_counts (added_here addition counts)) }
@@ -140,12 +145,7 @@ impl<H: BuildHasher + Copy> Gatherer for Counter<H> {
         self.open_block(id, first)
     }
 
-    fn defined(&mut self, _first: u64, _after: u64) -> Result<bool, AllocError> {
-        self.count_here(Addition::Definition)?;
-        Ok(true)
-    }
-
-    fn define(&mut self, _abbrev: &Abbrev, _first: u64, _after: u64) -> Result<(), AllocError> {
+    fn define(&mut self, _ops: HeldOps<'_>, _first: u64, _after: u64) -> Result<(), AllocError> {
         self.count_here(Addition::Definition)
     }
 
@@ -172,18 +172,12 @@ impl<H: BuildHasher + Copy> Gatherer for Counter<H> {
     }
 
     #[inline(always)]
-    fn pass(
-        &mut self,
-        bits: PlacedBits<'_>,
-        width: u32,
-        definitions: &InForce,
-        room: u64,
-    ) -> Result<PassedRun, AllocError> {
+    fn pass(&mut self, next: Coming<'_>, definitions: BlockDefinitions<'_>) -> Result<PassedRun, AllocError> {
         match self.open.last() {
             Some(block) => self
                 .rows
-                .pass(block.id, block.place, bits, width, definitions, room),
-            None => Ok(PassedRun::none(bits, room)),
+                .pass(block.id, block.place, next, definitions),
+            None => Ok(PassedRun::none(next)),
         }
     }
 

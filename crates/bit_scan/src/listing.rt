@@ -13,8 +13,8 @@ ghost use Rattle.bit_events.specs.Standing.{stands_after};
 
 use crate::printer::Printer;
 use crate::text_buffer::BATCH;
-use bit_abbrev::Abbrev;
-use bit_events::{Event, Gatherer, OpenBlocks, PackedEvent, PackedEvents};
+use bit_abbrev::{BlockDefinitions, Coming, HeldOps};
+use bit_events::{CountedRecord, Event, Gatherer, OpenBlocks, PackedEvent, PackedEvents, PassedRun, RunCounter, list_records};
 use bit_fields::{Fault, Limits, PackedValues, Sink, SliceSource, WideSlice};
 use bit_grammar::Info;
 use std::alloc::{AllocError, Global};
@@ -93,7 +93,6 @@ pub(crate) fn write_values<K: Sink>(
 }
 
 /// Writes the line of a record, piece by piece.
-#[tactic(auto, using(crate::proofs::Parted::no_first, crate::proofs::Parted::no_second, crate::proofs::Parted::third, crate::proofs::Parted::record_parts))]
 #[inline(never)]
 fn write_record_pieces<K: Sink>(
     printer: &mut Printer<K>,
@@ -138,7 +137,6 @@ fn write_whole<K: Sink>(
 }
 
 /// Writes the line of a record.
-#[tactic(auto, using(crate::proofs::Prints::whole_printed, crate::proofs::Prints::pieces_follow))]
 fn write_record<K: Sink>(
     printer: &mut Printer<K>,
     around: u32,
@@ -252,6 +250,22 @@ impl<'a, K: Sink> ListingWriter<'a, K> {
     }
 }
 
+impl<'a, K: Sink> RunCounter for ListingWriter<'a, K> {
+    #[inline(always)]
+    fn count(&mut self, record: CountedRecord, values: &[u64]) -> Result<bool, AllocError> {
+        if !self.standing.leaves_record(record.code) {
+            return Ok(true);
+        }
+        match self.printer.record_line(self.around, record.code, values) {
+            Ok(is_added) => Ok(is_added),
+            Err(fault) => {
+                self.stopped = Some(fault);
+                Err(AllocError)
+            }
+        }
+    }
+}
+
 impl<'a, K: Sink> Gatherer for ListingWriter<'a, K> {
     ghost use Rattle.std.specs.Prelude.{◌≡◌};
     ghost use Rattle.bit_scan.specs.Listing.{FailsLeft, WroteLeft};
@@ -277,12 +291,8 @@ impl<'a, K: Sink> Gatherer for ListingWriter<'a, K> {
         })
     }
 
-    fn define(&mut self, abbrev: &Abbrev, first: u64, after: u64) -> Result<(), AllocError> {
-        self.write(Event::Define {
-            abbrev,
-            first,
-            after,
-        })
+    fn define(&mut self, _ops: HeldOps<'_>, _first: u64, _after: u64) -> Result<(), AllocError> {
+        Ok(())
     }
 
     fn record(
@@ -301,29 +311,13 @@ impl<'a, K: Sink> Gatherer for ListingWriter<'a, K> {
     }
 
     #[inline(always)]
-    fn takes_few(&self) -> bool {
+    fn passes(&self) -> bool {
         true
     }
 
     #[inline(always)]
-    fn few(
-        &mut self,
-        _id: u32,
-        code: u64,
-        values: &[u64],
-        _first: u64,
-        _after: u64,
-    ) -> Result<bool, AllocError> {
-        if !self.standing.leaves_record(code) {
-            return Ok(true);
-        }
-        match self.printer.record_line(self.around, code, values) {
-            Ok(is_added) => Ok(is_added),
-            Err(fault) => {
-                self.stopped = Some(fault);
-                Err(AllocError)
-            }
-        }
+    fn pass(&mut self, next: Coming<'_>, definitions: BlockDefinitions<'_>) -> Result<PassedRun, AllocError> {
+        list_records(next, definitions, self)
     }
 
     fn leave(&mut self, after: u64) -> Result<(), AllocError> {

@@ -12,7 +12,15 @@ ghost use Rattle.bit_events.specs.Passing.{PassesRecords};
 ghost use Rattle.bit_scan.specs.declared.rows.Addition.TheVariants as addition;
 ghost use Rattle.bit_scan.specs.Rows.{block_tally, block_tallies, rows_after, with_codes, with_run, AddsToRow, CountsInRow};
 
+<<<<<<< /tmp/o
 use bit_abbrev::InForce;
+||||||| /tmp/b
+use crate::links::{Keyed, Spot, find, is_at, lead};
+use bit_abbrev::InForce;
+=======
+use crate::links::{Keyed, Spot, find, is_at, lead};
+use bit_abbrev::{BlockDefinitions, Coming};
+>>>>>>> /tmp/t
 use bit_events::{CountedRecord, PassedRun, RunCounter, pass_records};
 use bit_fields::PlacedBits;
 use indexmap::IndexMap;
@@ -316,10 +324,9 @@ struct RowCounter<'a, H: BuildHasher> {
 impl<'a, H: BuildHasher> RunCounter for RowCounter<'a, H> {
     ghost use Rattle.bit_scan.specs.Rows.{CountsBehind};
 
-    ghost counted = { λ first records last. CountsBehind first records last };
 
     #[inline(always)]
-    fn count(&mut self, passed: CountedRecord) -> Result<bool, AllocError> {
+    fn count(&mut self, passed: CountedRecord, _values: &[u64]) -> Result<bool, AllocError> {
         add_kind(&mut self.plain, &mut self.abbreviated, passed.id);
         let bits = passed.after - passed.first;
         self.row.add_code(self.places, passed.code, bits)?;
@@ -333,10 +340,8 @@ impl<H: BuildHasher> BlockRow<H> {
     fn pass(
         &mut self,
         places: &mut CodePlaces,
-        bits: PlacedBits<'_>,
-        width: u32,
-        definitions: &InForce,
-        room: u64,
+        next: Coming<'_>,
+        definitions: BlockDefinitions<'_>,
     ) -> Result<PassedRun, AllocError>
         requires width { width ≤ 32 }
         ensures { IfOk result (λ run. (records : List RecordMark)
@@ -349,10 +354,10 @@ impl<H: BuildHasher> BlockRow<H> {
             plain: 0,
             abbreviated: 0,
         };
-        match pass_records(bits, width, definitions, room, &mut counter) {
+        match pass_records(next, definitions, &mut counter) {
             Ok(run) => {
                 let (plain, abbreviated) = (counter.plain, counter.abbreviated);
-                counter.row.add_run(plain, abbreviated, room - run.room);
+                counter.row.add_run(plain, abbreviated, next.room - run.room);
                 Ok(run)
             }
             Err(error) => Err(error),
@@ -385,10 +390,8 @@ fn pass_at<H: BuildHasher>(
     rows: &mut IndexMap<u32, BlockRow<H>, H>,
     places: &mut Places,
     place: usize,
-    bits: PlacedBits<'_>,
-    width: u32,
-    definitions: &InForce,
-    room: u64,
+    next: Coming<'_>,
+    definitions: BlockDefinitions<'_>,
 ) -> Result<PassedRun, AllocError>
     requires within { place < index_map_len rows.old }
     requires width { width ≤ 32 }
@@ -399,8 +402,16 @@ fn pass_at<H: BuildHasher>(
         → block_tallies rows.old.entries ≡ cut_rows tallies
         → block_tallies rows.new.entries ≡ cut_rows (rows_after records id tallies))) }
 {
+<<<<<<< /tmp/o
     let (_id, row) = rows.pair_mut(place);
     row.pass(&mut places[place % 32], bits, width, definitions, room)
+||||||| /tmp/b
+    let (_, row) = &mut rows[place];
+    row.pass(&mut places[place % 32], bits, width, definitions, room)
+=======
+    let (_, row) = &mut rows[place];
+    row.pass(&mut places[place % 32], next, definitions)
+>>>>>>> /tmp/t
 }
 
 /// A row for each block id, in order of first entry.
@@ -493,10 +504,8 @@ impl<H: BuildHasher + Copy> BlockRows<H> {
         &mut self,
         id: u32,
         place: usize,
-        bits: PlacedBits<'_>,
-        width: u32,
-        definitions: &InForce,
-        room: u64,
+        next: Coming<'_>,
+        definitions: BlockDefinitions<'_>,
     ) -> Result<PassedRun, AllocError>
         requires width { width ≤ 32 }
         ensures { IfOk result (λ run. (records : List RecordMark)
@@ -504,17 +513,23 @@ impl<H: BuildHasher + Copy> BlockRows<H> {
             × ((tallies : List BlockTally) → block_tallies self.old.rows.entries ≡ cut_rows tallies
             → block_tallies self.new.rows.entries ≡ cut_rows (rows_after records id tallies))) }
     {
+<<<<<<< /tmp/o
         if !is_at(&self.rows, place, id) {
             return Ok(PassedRun::none(bits, room));
+||||||| /tmp/b
+        if !is_at(&self.rows, place, u64::from(id)) {
+            return Ok(PassedRun::none(bits, room));
+=======
+        if !is_at(&self.rows, place, u64::from(id)) {
+            return Ok(PassedRun::none(next));
+>>>>>>> /tmp/t
         }
         pass_at(
             &mut self.rows,
             &mut self.places,
             place,
-            bits,
-            width,
+            next,
             definitions,
-            room,
         )
     }
 

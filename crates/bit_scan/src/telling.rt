@@ -20,8 +20,8 @@ use crate::format::{EventStyle, Format};
 use crate::listing::{around_after, few_of, kept, write_values};
 use crate::printer::Printer;
 use crate::record_lines::{Noted, Opened};
-use bit_abbrev::Abbrev;
-use bit_events::{Event, Gatherer, PackedEvent, PackedEvents};
+use bit_abbrev::{Abbrev, BlockDefinitions, Coming, HeldOps};
+use bit_events::{CountedRecord, Event, Gatherer, PackedEvent, PackedEvents, PassedRun, RunCounter, list_records};
 use bit_fields::{Fault, Head, Limits, PackedValues, Reason, Sink, Source, WideSlice};
 use bit_grammar::{Op, ValueDisplay};
 use std::alloc::{AllocError, Global};
@@ -51,7 +51,6 @@ fn write_operands<K: Sink>(printer: &mut Printer<K>, ops: &[Op]) -> Result<(), F
 }
 
 /// Writes the line of a definition.
-#[tactic(auto, using(crate::proofs::Parted::no_first, crate::proofs::Parted::no_second, crate::proofs::Parted::third, crate::proofs::Parted::definition_parts))]
 fn write_definition<K: Sink>(
     printer: &mut Printer<K>,
     around: u32,
@@ -81,7 +80,6 @@ fn write_shown<K: Sink>(
 }
 
 /// Writes the line of a record, piece by piece.
-#[tactic(auto, using(crate::proofs::Parted::no_first, crate::proofs::Parted::no_second, crate::proofs::Parted::third, crate::proofs::Parted::noted_parts))]
 #[inline(never)]
 fn write_noted_pieces<K: Sink>(
     printer: &mut Printer<K>,
@@ -133,7 +131,6 @@ fn write_noted_whole<K: Sink>(
 }
 
 /// Writes the line of a record.
-#[tactic(auto, using(crate::proofs::Prints::whole_printed, crate::proofs::Prints::pieces_follow))]
 fn write_noted<K: Sink>(
     printer: &mut Printer<K>,
     around: u32,
@@ -352,7 +349,6 @@ fn write_json_whole<K: Sink>(
 }
 
 /// Writes the line of a record with its values as JSON.
-#[tactic(auto, using(crate::proofs::Prints::whole_printed, crate::proofs::Prints::pieces_follow))]
 fn write_json_values<K: Sink>(
     printer: &mut Printer<K>,
     around: u32,
@@ -634,6 +630,25 @@ impl<K: Sink> EventWriter<K> {
     }
 }
 
+impl<K: Sink> RunCounter for EventWriter<K> {
+    #[inline(always)]
+    fn count(&mut self, record: CountedRecord, values: &[u64]) -> Result<bool, AllocError> {
+        let noted = Noted {
+            first: record.first,
+            code: record.code,
+            abbreviation: record.id as u32,
+            count: record.count,
+        };
+        match write_few(&mut self.printer, self.around, noted, values, self.style) {
+            Ok(is_added) => Ok(is_added),
+            Err(fault) => {
+                self.stopped = Some(fault);
+                Err(AllocError)
+            }
+        }
+    }
+}
+
 impl<K: Sink> Gatherer for EventWriter<K> {
     ghost use Rattle.std.specs.Prelude.{◌≡◌};
     ghost use Rattle.bit_scan.specs.Telling.{FailsLine, WroteLines};
@@ -659,9 +674,13 @@ impl<K: Sink> Gatherer for EventWriter<K> {
         })
     }
 
-    fn define(&mut self, abbrev: &Abbrev, first: u64, after: u64) -> Result<(), AllocError> {
+    fn define(&mut self, ops: HeldOps<'_>, first: u64, after: u64) -> Result<(), AllocError> {
+        let Ok(abbrev) = Abbrev::of_held(self.alloc, ops) else {
+            self.stopped = Some(Fault::Memory);
+            return Err(AllocError);
+        };
         self.write(Event::Define {
-            abbrev,
+            abbrev: &abbrev,
             first,
             after,
         })
@@ -685,32 +704,13 @@ impl<K: Sink> Gatherer for EventWriter<K> {
     }
 
     #[inline(always)]
-    fn takes_few(&self) -> bool {
+    fn passes(&self) -> bool {
         true
     }
 
     #[inline(always)]
-    fn few(
-        &mut self,
-        id: u32,
-        code: u64,
-        values: &[u64],
-        first: u64,
-        after: u64,
-    ) -> Result<bool, AllocError> {
-        let noted = Noted {
-            first,
-            code,
-            abbreviation: id,
-            count: values.len() as u64,
-        };
-        match write_few(&mut self.printer, self.around, noted, values, self.style) {
-            Ok(is_added) => Ok(is_added),
-            Err(fault) => {
-                self.stopped = Some(fault);
-                Err(AllocError)
-            }
-        }
+    fn pass(&mut self, next: Coming<'_>, definitions: BlockDefinitions<'_>) -> Result<PassedRun, AllocError> {
+        list_records(next, definitions, self)
     }
 
     fn leave(&mut self, after: u64) -> Result<(), AllocError> {

@@ -8,7 +8,7 @@ use crate::marked::{
     MarkedBlock, MarkedBlocks, MarkedDefine, MarkedItem, MarkedItems, MarkedRecord,
 };
 use crate::tree::Values;
-use bit_abbrev::Abbrev;
+use bit_abbrev::{Abbrev, HeldOps};
 use bit_events::Gatherer;
 use std::alloc::{AllocError, Global};
 
@@ -87,8 +87,8 @@ impl Gatherer for MarkedBuilder {
         Ok(())
     }
 
-    fn define(&mut self, abbrev: &Abbrev, first: u64, after: u64) -> Result<(), AllocError> {
-        let abbrev = abbrev.copy(self.alloc)?;
+    fn define(&mut self, ops: HeldOps<'_>, first: u64, after: u64) -> Result<(), AllocError> {
+        let abbrev = Abbrev::of_held(self.alloc, ops)?;
         let define = MarkedDefine {
             abbrev,
             first,

@@ -45,7 +45,62 @@ impl<'a> BufRead for Chopped<'a> {
     }
 }
 
+/// A reader that gives a limited number of bytes at a time, and fails once it has given so many.
+#[derive(Drop)]
+pub(crate) struct Broken<'a> {
+    rest: &'a [u8],
+    step: usize,
+    left: usize,
+}
+
+impl<'a> Read for Broken<'a> {
+    fn read(&mut self, buf: &mut [u8]) -> io::Result<usize> {
+        if self.left == 0 {
+            return Err(Error::from(ErrorKind::Other));
+        }
+        let most = self.step.min(self.left).min(buf.len());
+        let count = self.rest.read(&mut buf[..most])?;
+        self.left = self.left.saturating_sub(count);
+        Ok(count)
+    }
+}
+
+/// It shows the same number of bytes at a time.
+impl<'a> BufRead for Broken<'a> {
+    fn fill_buf(&mut self) -> io::Result<&[u8]> {
+        if self.left == 0 {
+            return Err(Error::from(ErrorKind::Other));
+        }
+        let most = self.step.min(self.left).min(self.rest.len());
+        Ok(&self.rest[..most])
+    }
+
+    fn consume(&mut self, amount: usize) {
+        let count = amount.min(self.rest.len());
+        self.rest = &self.rest[count..];
+        self.left = self.left.saturating_sub(count);
+    }
+}
+
 /// A source over what such a reader shows.
+pub(crate) fn broken_shown(bytes: &[u8], step: usize, left: usize) -> BufSource<Broken<'_>> {
+    BufSource::new(Broken {
+        rest: bytes,
+        step,
+        left,
+    })
+}
+
+/// A source over such a reader.
+pub(crate) fn broken_read(bytes: &[u8], step: usize, left: usize) -> ReadSource<Broken<'_>> {
+    ReadSource::new(Broken {
+        rest: bytes,
+        step,
+        left,
+    })
+}
+
+/// A source over what a chopped reader shows.
 pub(crate) fn shown_source(bytes: &[u8], step: usize, fails_at: u64) -> BufSource<Chopped<'_>> {
     BufSource::new(Chopped {
         rest: bytes,
@@ -55,7 +110,7 @@ pub(crate) fn shown_source(bytes: &[u8], step: usize, fails_at: u64) -> BufSourc
     })
 }
 
-/// A source over such a reader.
+/// A source over a chopped reader.
 pub(crate) fn in_steps(bytes: &[u8], step: usize, fails_at: u64) -> ReadSource<Chopped<'_>> {
     ReadSource::new(Chopped {
         rest: bytes,

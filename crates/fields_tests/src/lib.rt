@@ -1,8 +1,6 @@
-//! Tests of what `bit_fields` reads: sources, the reader and buffered bits, by public calls.
+//! Tests of what `bit_fields` reads: sources, the reader and the bits that it shows, by public calls.
 #![tactic(auto)]
 
-#[cfg(test)]
-mod buffered;
 #[cfg(test)]
 mod chopped;
 #[cfg(test)]
@@ -13,5 +11,7 @@ mod kept;
 mod readers;
 #[cfg(test)]
 mod sources;
+#[cfg(test)]
+mod there;
 #[cfg(test)]
 mod words;

@@ -1,6 +1,8 @@
 //! Rows of the format, read from slices and from readers that give few bytes at a time.
 
-use crate::chopped::{MAGIC, after_magic, in_steps, reader_of, shown_source};
+use crate::chopped::{
+    MAGIC, after_magic, broken_read, broken_shown, in_steps, reader_of, shown_source,
+};
 use bit_fields::{BitReader, Fault, Head, Limits, Reason, Shapes, SliceSource, Source, Wrapper};
 
 /// The magic, and an empty block of id 8.
@@ -286,22 +288,16 @@ fn wholes(rt: HostRuntime) {
 
 #[test]
 fn failing_reads(rt: HostRuntime) {
-    // sixteen bytes one by one, and the end
-    for read in 1..19 {
-        let answer = if read == 18 { Ok(3) } else { Err(Fault::Read) };
-        let told = words(in_steps(&EMPTY_BLOCK, 1, read), Limits::usual());
-        assert!(rt; told == answer, "{read}");
-    }
-    // each byte is looked for, shown and read, and so is the end, where nothing is shown
-    for read in 1..52 {
-        let shown = read % 3 == 2 && read < 49;
-        let answer = if shown || read == 51 {
-            Ok(3)
-        } else {
-            Err(Fault::Read)
-        };
-        let told = words(shown_source(&EMPTY_BLOCK, 1, read), Limits::usual());
-        assert!(rt; told == answer, "{read}");
+    // after sixteen bytes it is asked for the end
+    for given in 0..17usize {
+        for step in [1, 3, 5, 1000] {
+            let read = words(broken_read(&EMPTY_BLOCK, step, given), Limits::usual());
+            let shown = words(broken_shown(&EMPTY_BLOCK, step, given), Limits::usual());
+            assert!(rt;
+                read == Err(Fault::Read) && shown == Err(Fault::Read),
+                "{given} {step}"
+            );
+        }
     }
 }
 
@@ -608,10 +604,11 @@ fn characters(rt: HostRuntime) {
     assert!(rt; told == CHARACTERS);
 }
 
-/// What is held after three bits, in five, thirteen and fourteen bits, and the position.
+/// What is there after three bits, in five, thirteen and fourteen bits, and the position.
 fn peeks_of<S: Source>(reader: &mut BitReader<S>) -> (Result<u64, Fault>, [Option<u64>; 3], u64) {
     let bits = reader.fixed(3);
-    let told = [reader.peek(5), reader.peek(13), reader.peek(14)];
+    let there = reader.bits();
+    let told = [there.part(5), there.part(13), there.part(14)];
     (bits, told, reader.position())
 }
 

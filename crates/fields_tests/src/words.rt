@@ -2,7 +2,7 @@
 
 ghost use Rattle.std.specs.Prelude.{◌<◌, ◌≤◌};
 
-use crate::chopped::{after_magic, in_steps, shown_source};
+use crate::chopped::{after_magic, broken_read, broken_shown, in_steps, shown_source};
 use bit_fields::{BitReader, Fault, Limits, Reason, SliceSource, Source};
 
 /// A magic, and bytes of which no two are equal.
@@ -81,27 +81,29 @@ fn fields_in_steps(rt: HostRuntime) {
     }
 }
 
-/// Whether a reader that shows its bytes gives the same as one that only gives them, if both fail at the same pull.
-fn fail_alike(n: u32, step: usize, fails_at: u64) -> bool
+/// All fields of n bits in the first `given` bytes, and then the failure of the source.
+fn up_to(given: usize, n: u32) -> (u64, Option<Fault>)
     requires some { 0 < n }
-    requires few { n ≤ 32 }
-    requires first { 0 < fails_at }
-    requires last { fails_at < 100 }
+    requires few { given ≤ 25 }
 {
-    let read = fields_of(in_steps(&INPUT, step, fails_at), n);
-    // the bytes of a pull are looked for, shown, and read or taken
-    let looked_for = fields_of(shown_source(&INPUT, step, 3 * fails_at - 2), n);
-    let taken = fields_of(shown_source(&INPUT, step, 3 * fails_at), n);
-    // bytes that the reader fails to show again are read
-    let shown = fields_of(shown_source(&INPUT, step, 3 * fails_at - 1), n);
-    read.1 == Some(Fault::Read) && looked_for == read && taken == read && shown == whole(25, n)
+    (
+        8 * (given as u64).saturating_sub(4) / u64::from(n),
+        Some(Fault::Read),
+    )
 }
 
 #[test]
-fn failures_in_steps(rt: HostRuntime) {
+fn only_missing_bytes_are_asked_for(rt: HostRuntime) {
     for n in 1..33u32 {
-        for (step, fails_at) in [(5, 1), (5, 2), (5, 3), (5, 5), (9, 1), (9, 2), (9, 3)] {
-            assert!(rt; fail_alike(n, step, fails_at), "{n} {step} {fails_at}");
+        for step in [1, 2, 3, 5, 8, 13, 1000] {
+            for given in 0..26usize {
+                let read = fields_of(broken_read(&INPUT, step, given), n);
+                let shown = fields_of(broken_shown(&INPUT, step, given), n);
+                assert!(rt;
+                    read == up_to(given, n) && shown == read,
+                    "{n} {step} {given}"
+                );
+            }
         }
     }
 }
@@ -276,15 +278,20 @@ fn give_fields(input: &[u8], answer: Result<u64, Fault>) -> bool {
     same
 }
 
-/// Whether both sources fail if their reader does, at one of the reads of eleven bytes.
+/// Whether both sources fail if their reader gives fewer than eleven bytes, and else are not asked again.
 fn fail_within(input: &[u8]) -> bool {
     let mut fail = true;
-    for fails_at in 1..12 {
-        let read = some_fields(in_steps(input, 1, fails_at));
-        // each byte is looked for, shown and read
-        let looked_for = some_fields(shown_source(input, 1, 3 * fails_at - 2));
-        let seen = some_fields(shown_source(input, 1, 3 * fails_at));
-        fail = fail && [read, looked_for, seen] == [Err(Fault::Read); 3];
+    for given in 0..12usize {
+        let answer = if given == 11 {
+            FIELDS.1
+        } else {
+            Err(Fault::Read)
+        };
+        for step in [1, 2, 3, 1000] {
+            let read = some_fields(broken_read(input, step, given));
+            let shown = some_fields(broken_shown(input, step, given));
+            fail = fail && read == answer && shown == answer;
+        }
     }
     fail
 }

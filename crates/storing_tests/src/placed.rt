@@ -4,7 +4,7 @@ ghost use Rattle.std.specs.Prelude.{◌≤◌, length, IfSome};
 ghost use Rattle.bit_fields.specs.PlacedView.{placed};
 
 use bit_fields::{
-    BitReader, Buffered, ChunkTops, ChunkWidth, FieldWidth, Limits, LoadedBits, PlacedBits,
+    BitReader, ChunkTops, ChunkWidth, Limits, LoadedBits, PlacedBits,
     SliceSource,
 };
 use std::process::Abort;
@@ -164,15 +164,20 @@ pub(crate) fn made(seed: u64) -> [u8; 60] {
     bytes
 }
 
-/// Buffered bits of an input, from the given bit behind the magic on.
-pub(crate) fn buffered_at<'a>(rt: &impl Abort, bytes: &'a [u8; 60], first: u64) -> Buffered<'a> {
+/// A reader of an input, at the given bit behind the magic.
+pub(crate) fn reader_at<'a>(
+    rt: &impl Abort,
+    bytes: &'a [u8; 60],
+    first: u64,
+) -> BitReader<SliceSource<'a>> {
     match BitReader::start(SliceSource::new(bytes), Limits::usual()) {
-        Ok((reader, _)) if reader.is_live() => {
-            let mut buffered = Buffered::new(reader.parts_in_slice());
-            buffered.skip_fields(first.min(999), FieldWidth { bits: 1 });
-            buffered
+        Ok((mut reader, _)) => {
+            for _ in 0..first {
+                assert!(rt; reader.fixed(1).is_ok());
+            }
+            reader
         }
-        _ => panic!(rt; "the input begins"),
+        Err(_) => panic!(rt; "the input begins"),
     }
 }
 
@@ -181,10 +186,10 @@ fn number_alone(rt: &impl Abort, bytes: &[u8; 60], first: u64, n: u32) -> Option
     requires least { 2 ≤ n }
     requires most { n ≤ 32 }
 {
-    let mut buffered = buffered_at(rt, bytes, first);
-    let start = buffered.position();
-    let value = buffered.vbr(ChunkWidth { bits: n })?;
-    Some((value, buffered.position().wrapping_sub(start)))
+    let mut reader = reader_at(rt, bytes, first);
+    let start = reader.position();
+    let value = reader.vbr(n).ok()?;
+    Some((value, reader.position().wrapping_sub(start)))
 }
 
 /// The same, as placed bits give it.
@@ -239,26 +244,26 @@ struct Apart {
 }
 
 /// Reads the next number of a record.
-fn number_apart(buffered: &mut Buffered<'_>, apart: &mut Apart) -> Option<u64> {
-    let first = buffered.position();
-    let value = buffered.vbr(ChunkWidth { bits: 6 })?;
+fn number_apart(reader: &mut BitReader<SliceSource<'_>>, apart: &mut Apart) -> Option<u64> {
+    let first = reader.position();
+    let value = reader.vbr(6).ok()?;
     let digits = 64 - value.leading_zeros();
     let chunks = (u64::from(digits.max(1)) + 4) / 5;
-    apart.shortest &= buffered.position().wrapping_sub(first) == 6 * chunks;
-    apart.there &= buffered.len() >= 64;
+    apart.shortest &= reader.position().wrapping_sub(first) == 6 * chunks;
+    apart.there &= reader.bits().len() >= 64;
     Some(value)
 }
 
 /// Reads the code and the count of values of a record.
-fn count_apart(buffered: &mut Buffered<'_>, apart: &mut Apart) -> Option<u64> {
-    number_apart(buffered, apart)?;
-    number_apart(buffered, apart)
+fn count_apart(reader: &mut BitReader<SliceSource<'_>>, apart: &mut Apart) -> Option<u64> {
+    number_apart(reader, apart)?;
+    number_apart(reader, apart)
 }
 
 /// Reads this many values of a record.
-fn values_apart(buffered: &mut Buffered<'_>, apart: &mut Apart, count: u64) -> Option<()> {
+fn values_apart(reader: &mut BitReader<SliceSource<'_>>, apart: &mut Apart, count: u64) -> Option<()> {
     for _ in 0..count {
-        number_apart(buffered, apart)?;
+        number_apart(reader, apart)?;
     }
     Some(())
 }
@@ -269,13 +274,13 @@ fn is_taken(rt: &impl Abort, bytes: &[u8; 60], first: u64) -> bool {
     let Some(bits) = placed_at(&bytes[4..], first) else {
         return false;
     };
-    let mut buffered = buffered_at(rt, bytes, first);
-    let start = buffered.position();
+    let mut reader = reader_at(rt, bytes, first);
+    let start = reader.position();
     let mut apart = Apart {
         shortest: true,
         there: true,
     };
-    let read = count_apart(&mut buffered, &mut apart);
+    let read = count_apart(&mut reader, &mut apart);
     let told = bits.plain_count();
     assert!(rt; told == read || (told.is_none() && !apart.there));
     let Some(count) = told else {
@@ -284,8 +289,8 @@ fn is_taken(rt: &impl Abort, bytes: &[u8; 60], first: u64) -> bool {
     if count > 7 {
         return false;
     }
-    let whole = values_apart(&mut buffered, &mut apart, count).is_some();
-    let len = buffered.position().wrapping_sub(start);
+    let whole = values_apart(&mut reader, &mut apart, count).is_some();
+    let len = reader.position().wrapping_sub(start);
     let spelled = whole && apart.shortest && len <= 54;
     match bits.short_plain(count) {
         Some((word, with_id)) => {
@@ -379,14 +384,14 @@ fn is_row_read(rt: &impl Abort, bytes: &[u8; 60], first: u64, values: &mut [u64]
     let Some(after) = bits.read_sixes(values) else {
         return false;
     };
-    let mut buffered = buffered_at(rt, bytes, first);
+    let mut reader = reader_at(rt, bytes, first);
     for value in values {
-        let Some(alone) = buffered.vbr(ChunkWidth { bits: 6 }) else {
+        let Ok(alone) = reader.vbr(6) else {
             return false;
         };
         assert!(rt; alone == *value);
     }
-    assert!(rt; buffered.position() == after.position());
+    assert!(rt; reader.position() == after.position());
     true
 }
 

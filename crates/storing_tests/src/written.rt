@@ -1,7 +1,7 @@
 //! Numbers and records that are stored from placed bits, against those that are stored number by number.
 
-use crate::placed::{buffered_at, made, placed_at};
-use bit_fields::{Buffered, ChunkWidth, PlacedBits, put, put_number, take_back};
+use crate::placed::{reader_at, made, placed_at};
+use bit_fields::{BitReader, PlacedBits, SliceSource, put, put_number, take_back};
 use std::alloc::{AllocError, Global};
 use std::process::Abort;
 
@@ -189,27 +189,27 @@ struct Apart {
 }
 
 /// Reads the next number of a record.
-fn number_apart(buffered: &mut Buffered<'_>, apart: &mut Apart) -> Option<u64> {
-    let left = buffered.len();
-    let value = buffered.vbr(ChunkWidth { bits: 6 })?;
-    apart.there &= left >= 192 && buffered.len() >= 128;
+fn number_apart(reader: &mut BitReader<SliceSource<'_>>, apart: &mut Apart) -> Option<u64> {
+    let left = reader.bits().len();
+    let value = reader.vbr(6).ok()?;
+    apart.there &= left >= 192 && reader.bits().len() >= 128;
     apart.numbers[apart.many.min(39)] = value;
     apart.many = apart.many.wrapping_add(1);
     Some(value)
 }
 
 /// Reads a record that is not abbreviated number by number.
-fn read_apart(buffered: &mut Buffered<'_>) -> Option<Apart> {
+fn read_apart(reader: &mut BitReader<SliceSource<'_>>) -> Option<Apart> {
     let mut apart = Apart {
         count: 0,
         numbers: [0; 40],
         many: 0,
         there: true,
     };
-    number_apart(buffered, &mut apart)?;
-    let count = number_apart(buffered, &mut apart)?;
+    number_apart(reader, &mut apart)?;
+    let count = number_apart(reader, &mut apart)?;
     for _ in 0..count {
-        number_apart(buffered, &mut apart)?;
+        number_apart(reader, &mut apart)?;
     }
     apart.count = count;
     Some(apart)
@@ -221,9 +221,9 @@ fn is_written(rt: &impl Abort, bytes: &[u8; 60], first: u64) -> bool {
     let Some(bits) = placed_at(&bytes[4..52], first) else {
         return false;
     };
-    let mut buffered = buffered_at(rt, bytes, first);
-    let apart = read_apart(&mut buffered);
-    let end = buffered.position();
+    let mut reader = reader_at(rt, bytes, first);
+    let apart = read_apart(&mut reader);
+    let end = reader.position();
     let Some(count) = bits.plain_count() else {
         assert!(rt; !matches!(apart, Some(Apart { there: true, .. })));
         return false;

@@ -1,5 +1,3 @@
-//! The passes of operands that give one value each.
-
 ghost use Rattle.std.specs.Prelude.{◌≡◌, ◌≤◌, true, false, List, [], ◌∷◌, ◌++◌, slice_get};
 ghost use Rattle.std.specs.Option.{ForSome};
 ghost use Rattle.bit_grammar.specs.declared.op.Op.{Op};
@@ -7,10 +5,11 @@ ghost use Rattle.bit_grammar.specs.declared.op.Op.TheVariants.{Vbr};
 ghost use Rattle.bit_grammar.specs.FormatDefinition.{HasLawfulValue};
 ghost use Rattle.bit_fields.specs.Placed.{AreTopsBehind};
 ghost use Rattle.bit_abbrev.specs.Plans.{Covers, TakesBits};
+//! The passes of operands that give one value each.
 
+use crate::held_op::HeldOp;
 use crate::plan::{MOST, Pass, Passes};
 use bit_fields::{ChunkWidth, tops_behind};
-use bit_grammar::Op;
 
 /// How many numbers a pass has at most.
 const TOGETHER: u8 = 4;
@@ -111,23 +110,18 @@ impl Passes {
 
     /// Adds an operand, if it fits.
     #[inline(always)]
-    pub(super) fn add(&mut self, op: Op) -> bool
-        requires { HasLawfulValue op }
-        ensures adds { result ≡ true → (ops : List Op) → Covers ops self.old
-            → Covers (ops ++ op ∷ []) self.new }
-        ensures same { result ≡ false → self.new ≡ self.old }
-    {
+    pub(super) fn add(&mut self, op: HeldOp) -> bool {
         match op {
-            Op::Literal(_) | Op::Vbr(0) => self.skip(0),
-            Op::Fixed(width) => self.skip(width),
-            Op::Char6 => self.skip(6),
-            Op::Vbr(width) => {
+            HeldOp::Literal(_) | HeldOp::Great(_) | HeldOp::Vbr(0) => self.skip(0),
+            HeldOp::Fixed(width) => self.skip(width),
+            HeldOp::Char6 => self.skip(6),
+            HeldOp::Vbr(width) => {
                 if self.join(width) {
                     return true;
                 }
                 self.begin(width)
             }
-            Op::Blob | Op::Array => false,
+            _ => false,
         }
     }
 }

@@ -5,38 +5,15 @@ ghost use Rattle.std.specs.Int.{w64, bit_not};
 ghost use Rattle.bit_grammar.specs.Bits.{bits_of, bits_of_bytes};
 ghost use Rattle.bit_grammar.specs.Fields.{fixed, vbr};
 ghost use Rattle.bit_fields.specs.Buffered.{Reads, beyond};
-ghost use Rattle.bit_fields.specs.BufferedParts.{bits_of_parts, AreParts};
 ghost use Rattle.bit_fields.specs.Placed.{HasNumbers, Shows, bits_at};
 ghost use Rattle.bit_fields.specs.PlacedView.{loaded, placed};
 
-use crate::buffered::{Buffered, BufferedParts};
 use crate::placed::{ChunkTops, LoadedBits, PlacedBits};
 use crate::six_bits::{EIGHT_TOPS, TOPS, end_of, goes_on};
 use crate::width::ChunkWidth;
 use crate::word::eight_of;
 
 impl<'a> PlacedBits<'a> {
-    /// Buffered bits from a position on, if they are not before the bytes.
-    #[inline(always)]
-    pub fn new(buffered_parts: BufferedParts<'a>, position: u64) -> Option<PlacedBits<'a>>
-        requires lawful { AreParts buffered_parts }
-        requires most { position ≤ (bits_of_parts buffered_parts).position
-            + length (bits_of_parts buffered_parts).bits }
-        ensures { IfSome result (λ found. (buffered_parts.entry.position ≤ position)
-            × (placed found ≡ beyond (bits_of_parts buffered_parts.entry)
-            (position - buffered_parts.entry.position))) }
-    {
-        let start = buffered_parts.position + u64::from(buffered_parts.held);
-        if position < start {
-            return None;
-        }
-        Some(PlacedBits {
-            bytes: buffered_parts.bytes,
-            start,
-            at: position - start,
-        })
-    }
-
     /// The position of the first bit.
     #[inline(always)]
     pub fn position(self) -> u64
@@ -121,12 +98,10 @@ impl<'a> PlacedBits<'a> {
         ensures { 0 < result.1 → Reads (vbr n) (placed self.entry) result.0
             (beyond (placed self.entry) result.1) }
     {
-        let mut buffered = Buffered::of(
-            &self.bytes[(self.at >> 3) as usize..],
-            self.start + (self.at & !7),
-        );
-        buffered.skip(self.at & 7);
-        buffered.far_vbr(ChunkWidth { bits: n })
+        match self.chunk_by_chunk(ChunkWidth { bits: n }) {
+            Some((value, after)) => (value, after.position() - self.position()),
+            None => (0, 0),
+        }
     }
 
     /// The length of a number in chunks of n bits that is long, if it is there.
@@ -229,23 +204,34 @@ impl<'a> PlacedBits<'a> {
         ensures has { IfSome result (λ len. HasNumbers chunks.bits count (placed self.entry) len) }
         ensures more { IfSome result (λ len. len + more ≤ length (placed self.entry).bits) }
     {
+        let (some, after) = self.some_of(chunks, count);
+        if some < count || !after.has(more) {
+            return None;
+        }
+        Some(after.position() - self.position())
+    }
+
+    /// Passes over numbers in chunks of any width, as long as 64 bits are there, at most `most`. Returns how many, and the bits behind.
+    #[inline(always)]
+    pub fn some_of(self, chunks: ChunkTops, most: u64) -> (u64, PlacedBits<'a>)
+        ensures most { result.0 ≤ most }
+        ensures has { (len : ℕ) × HasNumbers chunks.bits result.0 (placed self.entry) len
+            × (placed result.1 ≡ beyond (placed self.entry) len) }
+    {
         let mut bits = self;
-        let mut left = count;
-        while left > 0 {
-            if !bits.has(64) {
-                return None;
-            }
+        let mut left = most;
+        while left > 0 && bits.has(64) {
             let len = match bits.load().few(chunks, 1) {
                 Some(len) => len,
-                None => bits.long(chunks.bits)?,
+                None => match bits.long(chunks.bits) {
+                    Some(len) => len,
+                    None => break,
+                },
             };
             left -= 1;
             bits = bits.after(len);
         }
-        if !bits.has(more) {
-            return None;
-        }
-        Some(bits.at - self.at)
+        (most - left, bits)
     }
 }
 
@@ -265,7 +251,7 @@ fn ends_from(bytes: &[u8], place: usize, shift: u64) -> u64
 ///
 /// Each load is eight chunks behind the last one, wherever numbers end, so that it need not wait for that one.
 #[inline(never)]
-fn pass_sixes(bytes: &[u8], from: u64, count: u64) -> (u64, u64)
+pub(crate) fn pass_sixes(bytes: &[u8], from: u64, count: u64) -> (u64, u64)
     requires there { from ≤ 8 * length bytes.now }
     requires fits { 8 * length bytes.now < 2 ^ 64 }
     ensures on { from ≤ result.0 }

@@ -35,6 +35,9 @@ impl<'a> PlacedBits<'a> {
         if ends & 0o40 != 0 {
             return Some((!ends & 31, self.after(6)));
         }
+        if ends & 0o40_00 != 0 {
+            return Some((!ends & 31 | !ends >> 1 & 0x3e0, self.after(12)));
+        }
         let tops = ends & TOPS;
         if tops == 0 {
             return self.near_number(6, more);

@@ -1,21 +1,14 @@
-use Rattle.std.proofs.Common.{refl, sym, ◌∙◌}
-use Rattle.bit_abbrev.proofs.Layouts.{singles_laid, coded_laid, list_laid}
+use Rattle.bit_abbrev.proofs.PlaceLayouts.{coded_laid, list_laid, singles_laid}
 use Rattle.bit_abbrev.proofs.layout.layout_of.Goals as goal
+
+pub returns-then-has_array : goal.returns-then-has_array
+returns-then-has_array c =
+    list_laid c.args.ops.now c.requires.shape (c.requires.plain c.if-has_odd.false) c.if-ops-gt-MOST.false (c.has_blob.ensures.no c.if-has_blob.false) (c.has_array.ensures.yes c.if-has_array.true)
 
 pub returns-in-Literal : goal.returns-in-Literal
 returns-in-Literal c =
-    let shape = sym c.if-not-usable.false ∙ c.requires.usable in
-    let counted = rw c.in-Nothing.is at (c.requires.tail c.if-not-usable.false) in
-    singles_laid c.args.ops.now c.in-Literal.field-0 c.requires.definable (c.if-not-have_chunks.ensures refl) shape c.if-ops-gt-MOST.false c.in-Literal.is counted
+    singles_laid c.args.ops.now _ _ c.in-Literal.is (coded_laid c.args.ops.now c.requires.some c.requires.shape (c.requires.plain c.if-has_odd.false) c.if-ops-gt-MOST.false (c.has_blob.ensures.no c.if-has_blob.false) (c.has_array.ensures.no c.if-has_array.false))
 
 pub returns-in_default : goal.returns-in_default
 returns-in_default c =
-    let shape = sym c.if-not-usable.false ∙ c.requires.usable in
-    let counted = rw c.in-Nothing.is at (c.requires.tail c.if-not-usable.false) in
-    coded_laid c.args.ops.now c.requires.definable (c.if-not-have_chunks.ensures refl) shape c.if-ops-gt-MOST.false counted
-
-pub returns-in-Array : goal.returns-in-Array
-returns-in-Array c =
-    let shape = sym c.if-not-usable.false ∙ c.requires.usable in
-    let counted = rw c.in-Array.is at (c.requires.tail c.if-not-usable.false) in
-    list_laid c.args.ops.now c.requires.definable (c.if-not-have_chunks.ensures refl) shape c.if-ops-gt-MOST.false counted
+    coded_laid c.args.ops.now c.requires.some c.requires.shape (c.requires.plain c.if-has_odd.false) c.if-ops-gt-MOST.false (c.has_blob.ensures.no c.if-has_blob.false) (c.has_array.ensures.no c.if-has_array.false)

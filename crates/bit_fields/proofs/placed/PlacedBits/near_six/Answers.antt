@@ -1,11 +1,11 @@
-use Rattle.std.proofs.Common.{◌≡◌, ℕ, ◌+◌, ◌^◌, ◌<◌, ◌≤◌, ap, ◌∙◌, arith, bit_and}
+use Rattle.std.proofs.Common.{◌≡◌, ℕ, ◌+◌, ◌^◌, ◌<◌, ◌≤◌, ◌/◌, ap, ◌∙◌, arith, bit_and, bit_or}
 use Rattle.std.specs.Int.{w64, bit_not, trailing_zeros}
 use Rattle.std.proofs.lemmas.Nat.{one_shl, pow_pos}
 use Rattle.bit_fields.specs.Buffered.{beyond}
 use Rattle.bit_fields.specs.PlacedView.{placed}
 use Rattle.bit_fields.specs.SixEnds.{tops}
 use Rattle.bit_fields.proofs.PlacedNumbers.{few_taken}
-use Rattle.bit_fields.proofs.Placing.{six_one}
+use Rattle.bit_fields.proofs.Placing.{six_one, six_two}
 use Rattle.bit_fields.proofs.SixValues.{cut_joined, six_ends, six_few, six_read}
 use Rattle.bit_fields.proofs.placed.PlacedBits.near_six.Goals as goal
 
@@ -14,6 +14,13 @@ returns-then-ends-ne0 c =
     let a = placed c.args.self in
     let ends = c.ends-ends.result in
     few_taken 6 c.args.more 6 (bit_and (bit_not w64 ends) 31) a (placed c.after.result) (omega arith) (omega arith) (six_one ends a c.ends-ends.type_inv c.ends-ends.ensures.shows c.if-ends-ne0.true) c.after.ensures.rest
+
+pub returns-then-ends-ne0-2 : goal.returns-then-ends-ne0-2
+returns-then-ends-ne0-2 c =
+    let a = placed c.args.self in
+    let ends = c.ends-ends.result in
+    let word = bit_not w64 ends in
+    few_taken 6 c.args.more 12 (bit_or (bit_and word 31) (bit_and (word / 2) 992)) a (placed c.after-then-ends-ne0-2.result) (omega arith) (omega arith) (six_two ends a c.ends-ends.type_inv c.ends-ends.ensures.shows c.if-ends-ne0.false c.if-ends-ne0-2.true) c.after-then-ends-ne0-2.ensures.rest
 
 few_bits : (ends : ℕ) → ends < 2 ^ 64 → (bit_and ends (tops 9) ≡ 0 → ⊥) → trailing_zeros w64 (bit_and ends (tops 9)) + 1 ≤ 54
 few_bits ends fits some = (six_few (trailing_zeros w64 (bit_and ends (tops 9)) + 1) (bit_not w64 ends) (six_ends ends fits some)).1

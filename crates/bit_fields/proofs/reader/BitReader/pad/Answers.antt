@@ -1,9 +1,10 @@
-use Rattle.std.proofs.Common.{Ok, ap, refl}
+use Rattle.std.proofs.Common.{ℕ, ◌+◌, ◌≤◌, Ok, ap, subst, refl, arith}
 use Rattle.std.proofs.lemmas.Result.{err_from_is_err_and}
 use Rattle.bit_grammar.specs.Fields.{padding_length, align32}
 use Rattle.bit_fields.specs.Reader.{Reader}
 use Rattle.bit_fields.proofs.Composing.{only}
 use Rattle.bit_fields.proofs.Padding.{padding_goes_on, padding_missed, padded}
+use Rattle.bit_fields.proofs.Asked.{fails_too}
 use Rattle.bit_fields.proofs.reader.BitReader.pad.Goals as goal
 
 pub returns-in_err-count-clause-takes : goal.returns-in_err-count-clause-takes
@@ -22,3 +23,10 @@ returns-clause-takes g c = padded c.self.inside.position (padding_length c.self.
 
 pub returns-clause-only : goal.returns-clause-only
 returns-clause-only g c = only align32 c.args.self.now (Ok tt) c.loop-left.self (returns-clause-takes g c)
+
+pub returns-in_err-count-clause-asks : goal.returns-in_err-count-clause-asks
+returns-in_err-count-clause-asks g c =
+    let p = err_from_is_err_and c.from_residual.result c.from_residual.ensures.1 in
+    let all : ℕ = c.loop-left.self.position + c.loop-left.left in
+    let within : all ≤ c.args.self.now.position + padding_length c.args.self.now.position = subst (λ (q : ℕ). all ≤ q + padding_length q) (ap (λ (r : Reader). r.position) c.self.view_is) (omega (arith, c.loop-left.invariant.place)) in
+    rw (p.1, p.2) (fails_too ℕ (Unit {0}) all (c.args.self.now.position + padding_length c.args.self.now.position) c.in_err-count.field-0.0 c.some_zeros.new.self within c.in_err-count.ensures.asks)
