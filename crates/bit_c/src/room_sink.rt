@@ -109,9 +109,10 @@ impl Sink for RoomSink {
         }
     }
 
-    /// Makes room for a text that fits. Without memory for it the sink goes on as before.
+    /// Makes room for a text that fits, and keeps nothing of a longer one. Without memory for it the sink goes on as before.
     fn expect(&mut self, bytes: u64) {
         if bytes > self.room as u64 {
+            self.kept = None;
             return;
         }
         if let Some(kept) = &mut self.kept {
