@@ -103,5 +103,17 @@ front_more {places} {taken} d front within adds =
 pub rest_is : (places : List HeldOp) (taken : ℕ) → take (length places - taken) (drop taken places) ≡ drop taken places
 rest_is places taken = take_all (length places - taken) (drop taken places) (omega (arith, length-drop taken places))
 
-pub in_three : {places others : List HeldOp} {first : HeldOp} {code taken count : ℕ} {passes : Passes} → places ≡ first ∷ others → ops_of (first ∷ others) ≡ op.Literal code ∷ ops_of others → (front : TakesFront others taken count passes) → ops_of places ≡ op.Literal code ∷ (front.front ++ ops_of (drop taken others))
-in_three {code = code} is first_is front = ap ops_of is ∙ first_is ∙ ap (λ (ops : List Op). op.Literal code ∷ ops) front.all
+-- the first place, and the others
+pub parted : (places : List HeldOp) (d : HeldOp) → 1 ≤ length places → places ≡ get_or places 0 d ∷ take (length places - 1) (drop 1 places)
+parted [] d some = absurd (omega (arith, some))
+parted (place ∷ places) d some = ap (λ (l : List HeldOp). place ∷ l) (sym (take_all (length (place ∷ places) - 1) places (omega arith)))
+
+pub others_lawful : (places : List HeldOp) (d : HeldOp) (code : ℕ) → 1 ≤ length places → ops_of (get_or places 0 d ∷ take (length places - 1) (drop 1 places)) ≡ op.Literal code ∷ ops_of (take (length places - 1) (drop 1 places)) → AllByRecursion HasLawfulValue (ops_of places)
+    → AllByRecursion HasLawfulValue (ops_of (take (length places - 1) (drop 1 places)))
+others_lawful places d code some first_is lawful =
+    let all = subst (AllByRecursion HasLawfulValue) (ap ops_of (parted places d some) ∙ first_is) lawful in
+    all.1
+
+pub in_three : (places : List HeldOp) (d : HeldOp) (code : ℕ) {taken count : ℕ} {passes : Passes} → 1 ≤ length places → ops_of (get_or places 0 d ∷ take (length places - 1) (drop 1 places)) ≡ op.Literal code ∷ ops_of (take (length places - 1) (drop 1 places))
+    → (front : TakesFront (take (length places - 1) (drop 1 places)) taken count passes) → ops_of places ≡ op.Literal code ∷ (front.front ++ ops_of (drop taken (take (length places - 1) (drop 1 places))))
+in_three places d code some first_is front = ap ops_of (parted places d some) ∙ first_is ∙ ap (λ (ops : List Op). op.Literal code ∷ ops) front.all
