@@ -1,4 +1,4 @@
-use Rattle.std.proofs.Common.{◌≡◌, Ok, Err, List, subst, sym}
+use Rattle.std.proofs.Common.{Ok, Err, List, subst, sym}
 use Rattle.bit_grammar.specs.declared.op.Op.{Op}
 use Rattle.bit_grammar.specs.Definition.{definition}
 use Rattle.bit_fields.specs.Reader.{Took}
@@ -14,7 +14,7 @@ returns-in-Ok-clause-only g c = only (definition c.args.shapes) c.args.reader.no
 
 pub returns-in-Err-clause-takes : goal.returns-in-Err-clause-takes
 returns-in-Err-clause-takes g c =
-    rw c.fail_at.ensures.fault (back_there (definition c.args.shapes) c.args.reader.now c.in-Err.fault c.read_ops.new.reader c.position-first.result c.fail_at.new.self c.in-Err.ensures c.position-first.ensures.position c.fail_at.ensures.moved)
+    rw c.fail_at.ensures.fault (back_there (definition c.args.shapes) c.args.reader.now c.in-Err.fault c.read_ops.new.reader c.position-first.result c.fail_at.new.self c.in-Err.ensures.takes c.position-first.ensures.position c.fail_at.ensures.moved)
 
 pub returns-in-Err-clause-only : goal.returns-in-Err-clause-only
 returns-in-Err-clause-only g c =

@@ -1,10 +1,9 @@
-use Rattle.std.proofs.Common.{List, length, take, drop, ◌-◌, subst, sym, ap}
+use Rattle.std.proofs.Common.{List, length, take, drop, ◌-◌, subst, sym}
 use Rattle.std.specs.List.{AllByRecursion}
 use Rattle.bit_grammar.specs.FormatDefinition.{HasLawfulValue}
 use Rattle.bit_abbrev.specs.declared.held_op.HeldOp.{HeldOp}
 use Rattle.bit_abbrev.specs.declared.held_op.HeldOp.TheVariants.{Literal}
 use Rattle.bit_abbrev.specs.HeldPlaces.{ops_of}
-use Rattle.bit_abbrev.specs.Plans.{HasRest}
 use Rattle.bit_abbrev.proofs.PlanPlaces.{in_three, others_lawful, rest_is, rest_lawful}
 use Rattle.bit_abbrev.proofs.plan.Plan.of.Goals as goal
 
