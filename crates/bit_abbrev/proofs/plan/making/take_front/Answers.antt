@@ -1,6 +1,6 @@
 use Rattle.std.proofs.Common.{rules, arith}
 use Rattle.bit_abbrev.specs.declared.held_op.HeldOp.TheVariants.{Literal}
-use Rattle.bit_abbrev.proofs.PlanPlaces.{front_none, front_part, front_more, width_at}
+use Rattle.bit_abbrev.proofs.PlanPlaces.{front_more, width_at}
 use Rattle.bit_abbrev.proofs.plan.making.take_front.Goals as goal
 
 pub add-requires : goal.add-requires
