@@ -1,17 +1,27 @@
 pub mod Breaks
-pub mod Table
-mod PlacesHeld
-mod PlaceLayouts
-mod DefinitionLists
-mod InfoTables
-mod Uniting
-mod Sorting
-mod BlockMarks
-mod Growing
-mod CompactReading
+mod Encoded
+mod Heads
+mod HeldLists
+mod Ordered
+pub mod Entries
+mod Tables
+mod Places
 pub mod Adding
+pub mod Taking
 pub mod Operands
 pub mod Shapes
+pub mod ShortOps
+pub mod Layouts
+pub mod Records
+mod Several
 pub mod Covering
+pub mod Grouping
 pub mod PlanPlaces
 pub mod PassedRecords
+pub mod Singles
+pub mod FewValues
+pub mod Buffered
+pub mod Missing
+pub mod HeldRecords
+mod PlacesHeld
+mod CompactReading

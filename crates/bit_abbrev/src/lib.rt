@@ -20,19 +20,30 @@ mod info;
 mod laws;
 mod layout;
 mod list;
+mod op_list;
 mod op_taker;
+mod placed;
 mod plan;
 mod plans;
+mod record;
 mod table;
+mod taking;
+mod walk;
 mod widths;
 
 pub use abbrev::{Abbrev, BadAbbrev, Ops};
 pub use bit_grammar::Op;
 pub use definition::read_define;
-pub use definitions::{Definitions, InForce, Marks};
+pub use definitions::{BlockDefinitions, Definitions, InForce, Marks};
 pub use held_op::{HeldOp, HeldOps};
 pub use info::InfoTable;
 pub use laws::lawful_unbroken;
 pub use layout::Layout;
 pub use list::Head;
-pub use plan::{MARGIN, Plan, pass_plain};
+pub use plan::{MARGIN, Plan};
+pub use record::{Begun, read_abbreviated, read_record};
+pub use taking::{Taken, take_record};
+pub use walk::{
+    Coming, Counting, FEW, FIELDS, Here, Listing, MOST_VALUES, Planned, Visitor, Walked, value_of,
+    walk,
+};
