@@ -3,7 +3,7 @@ mod Encoded
 mod Heads
 mod HeldLists
 mod Ordered
-pub mod Table
+pub mod Entries
 mod Tables
 mod Places
 pub mod Adding
@@ -16,10 +16,12 @@ pub mod Records
 mod Several
 pub mod Covering
 pub mod Grouping
-pub mod PlanParts
+pub mod PlanPlaces
 pub mod PassedRecords
 pub mod Singles
 pub mod FewValues
 pub mod Buffered
 pub mod Missing
 pub mod HeldRecords
+mod PlacesHeld
+mod CompactReading

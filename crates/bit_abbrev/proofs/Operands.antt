@@ -20,7 +20,7 @@ use Rattle.bit_grammar.specs.FormatDefinition.{HasLawfulValue, Definable}
 use Rattle.bit_grammar.proofs.Words.Definitions.{PassFrom, operands_are, order_passed}
 use Rattle.bit_fields.specs.declared.fault.Fault.{Fault}
 use Rattle.bit_fields.specs.declared.fault.Fault.TheVariants.{Memory}
-use Rattle.bit_abbrev.specs.Defining.{AddsRead, TakesCount}
+use Rattle.bit_abbrev.specs.Defining.{TakesCount}
 use Rattle.bit_fields.specs.Reader.{Reader, Took, Why, Takes, told_by, failed_reader}
 use Rattle.bit_fields.proofs.Composing.{fault_then, first_chosen, from_here, holds_then, same_reading, second_chosen, took_nothing, took_then}
 use Rattle.bit_abbrev.proofs.Adding.{and_gives, memory_after}
@@ -192,9 +192,3 @@ all_definable shapes count a done place b ops some most h = record { some = omeg
 pub order_judged : (shapes : Shapes) (count : ℕ) (a : Reader) (ops : List Op) (b : Reader) → Took (operands shapes count first) a ops b → shapes ≡ AtDefinition → has_shape ops ≡ true
 order_judged shapes count a ops b t is =
     order_passed first ops (subst (λ (s : Shapes). PassFrom s first ops) is (operands_are shapes count first a.position t.spells.0 ops t.spells.1).1)
-
--- ---- adding what was read
-
-pub adds_so : {P Q : List Op → Type 0} (rule : Grammar (List Op)) (a : Reader) (result : Result (Unit {0}) Fault) (b : Reader) → ((ops : List Op) → P ops → Q ops) → AddsRead rule a result b P → AddsRead rule a result b Q
-adds_so rule a (Ok x) b so h = (h.0, h.1, so h.0 h.2)
-adds_so rule a (Err fault) b so h = h

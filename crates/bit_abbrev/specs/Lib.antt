@@ -1,13 +1,16 @@
 pub mod Bits
 pub mod Breaks
+pub mod CompactReading
 pub mod Defining
 pub mod Groups
 pub mod Heads
 pub mod HeldLists
 pub mod HeldOps
+pub mod HeldPlaces
 pub mod InForce
 pub mod Layouts
 pub mod Operands
+pub mod PlaceLayouts
 pub mod Plans
 pub mod Ready
 pub mod Scalars

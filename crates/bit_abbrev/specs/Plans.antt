@@ -1,5 +1,5 @@
 -- How a record is passed over: bits to skip, and numbers of which only the ends are found.
-use Rattle.std.specs.Prelude.{◌≡◌, ◌≢◌, ℕ, ◌+◌, ◌≤◌, true, List, [], ◌∷◌, ◌++◌, length, take}
+use Rattle.std.specs.Prelude.{◌≡◌, ◌≢◌, ℕ, ◌+◌, ◌≤◌, true, List, [], ◌∷◌, ◌++◌, length, take, drop}
 use Rattle.bit_grammar.specs.declared.op.Op.{Op}
 use Rattle.bit_grammar.specs.declared.op.Op.TheVariants.{Literal, Fixed, Vbr, Array, Char6, Blob}
 use Rattle.bit_grammar.specs.Definition.{has_shape}
@@ -8,6 +8,9 @@ use Rattle.bit_grammar.specs.Record.{scalar, values_of}
 use Rattle.bit_grammar.specs.Terms.{CodeAndValues}
 use Rattle.bit_fields.specs.Buffered.{BufferedBits, Reads, beyond}
 use Rattle.bit_fields.specs.Placed.{HasNumbers}
+use Rattle.bit_abbrev.specs.declared.held_op.HeldOp.{HeldOp}
+use Rattle.bit_abbrev.specs.declared.held_op.HeldOp.TheVariants as place
+use Rattle.bit_abbrev.specs.HeldPlaces.{ops_of}
 use Rattle.bit_abbrev.specs.declared.plan.Pass.{Pass}
 use Rattle.bit_abbrev.specs.declared.plan.Passes.{Passes}
 use Rattle.bit_abbrev.specs.declared.plan.Passed.{Passed}
@@ -41,6 +44,24 @@ TakesBits (Fixed width) bits = bits ≡ width
 TakesBits (Vbr width) bits = (width ≡ 0) × (bits ≡ 0)
 TakesBits Char6 bits = bits ≡ 6
 TakesBits _ bits = ⊥
+
+-- the chunks of a number have no bits, or more than one
+abbrev pub HasLawfulWidth : HeldOp → Type 0
+HasLawfulWidth (place.Vbr width) = (width ≤ 32) × (width ≢ 1)
+HasLawfulWidth _ = Unit {0}
+
+-- the operand that begins in this place was added behind all that passes cover, whatever stands behind the place
+abbrev pub PlaceAdds : HeldOp → (old new : Passes) → Type 0
+PlaceAdds first old new = (rest : List HeldOp) → (op : Op) × (ops_of (first ∷ rest) ≡ op ∷ ops_of rest)
+    × ((ops : List Op) → Covers ops old → Covers (ops ++ op ∷ []) new)
+
+-- passes cover the operands in the first places, which are so many
+pub record TakesFront (places : List HeldOp) (taken count : ℕ) (passes : Passes) : Type 0 where
+  pub within : taken ≤ length places
+  pub front : List Op
+  pub all : ops_of places ≡ front ++ ops_of (drop taken places)
+  pub many : length front ≡ count
+  pub covers : Covers front passes
 
 -- what comes after the single operands, if the plan passes over anything; the bits of an array's element
 abbrev pub HasRest : (width : ℕ) → Rest → List Op → Type 0

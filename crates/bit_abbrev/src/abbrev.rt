@@ -1,17 +1,14 @@
-ghost use Rattle.bit_abbrev.specs.Operands.{HasTail};
-ghost use Rattle.bit_abbrev.specs.Layouts.{HasLayout};
-ghost use Rattle.bit_abbrev.specs.Plans.{IsPlan};
 //! Abbreviations: lists of operands.
 
 ghost use Rattle.std.specs.Prelude.{◌≡◌, ◌≤◌, ◌↔◌, true, length, IsOk, IfOk, IfErr, IfSome, IfNone};
 ghost use Rattle.bit_grammar.specs.Definition.{fits, place_after, kind_of, has_shape};
-ghost use Rattle.bit_grammar.specs.declared.shapes.Shapes.TheVariants.{AtDefinition};
 ghost use Rattle.bit_grammar.specs.FormatDefinition.{Definable, Lawful};
 ghost use Rattle.bit_abbrev.specs.Breaks.{IsFirstBreak, LiteralFits, break_of};
+ghost use Rattle.bit_abbrev.specs.HeldPlaces.{ops_of};
 
 use crate::held_op::HeldOps;
 use crate::widths::{is_fixed_width, is_vbr_width};
-use bit_grammar::{Kind, Op, Place, Reason, Shapes};
+use bit_grammar::{Kind, Op, Place, Reason};
 use smallvec::SmallVec;
 use std::alloc::{AllocError, Global};
 use std::fmt;
@@ -48,7 +45,7 @@ impl fmt::Debug for Abbrev {
 }
 
 impl Model for Abbrev {
-    ghost use Rattle.std.specs.Prelude.{◌≡◌, List, true};
+    ghost use Rattle.std.specs.Prelude.{◌≡◌, List};
     ghost use Rattle.bit_grammar.specs.declared.op.Op.{Op};
     ghost use Rattle.bit_grammar.specs.Definition.{has_shape};
     ghost use Rattle.bit_grammar.specs.FormatDefinition.{Definable};
@@ -159,7 +156,10 @@ impl Abbrev {
     }
 
     /// The abbreviation with operands that are held.
-    pub fn of_held(alloc: Global, held: HeldOps<'_>) -> Result<Abbrev, AllocError> {
+    pub fn of_held(alloc: Global, held: HeldOps<'_>) -> Result<Abbrev, AllocError>
+        requires { Definable (ops_of held.places.now) }
+        ensures { IfOk result (λ made. made ≡ ops_of held.entry.places.now) }
+    {
         let mut ops = Ops::new(alloc);
         ops.reserve_exact(held.places.len())?;
         let mut left = held;
@@ -171,7 +171,10 @@ impl Abbrev {
     }
 
     /// The abbreviation with operands that were read.
-    pub(crate) fn of_read(ops: Ops) -> Abbrev {
+    pub(crate) fn of_read(ops: Ops) -> Abbrev
+        requires { Definable ops.items }
+        ensures { result ≡ ops.items }
+    {
         let usable = has_shape(ops.as_slice());
         Abbrev { ops, usable }
     }

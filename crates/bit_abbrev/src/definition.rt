@@ -1,20 +1,18 @@
-ghost use Rattle.std.specs.Prelude.{◌≡◌, ◌-◌, ◌<◌, [], IfOk, OnOk, OnErr, true};
-ghost use Rattle.bit_grammar.specs.Definition.{kind, passes, valued, operand, operands, definition};
-ghost use Rattle.bit_grammar.specs.declared.shapes.Shapes.{Shapes};
-ghost use Rattle.bit_grammar.specs.declared.op.Place.TheVariants.{First};
-ghost use Rattle.bit_grammar.specs.FormatDefinition.{HasLawfulValue, Definable};
-ghost use Rattle.bit_fields.specs.Reader.{Takes, IsOnly, told_by};
-ghost use Rattle.bit_abbrev.specs.Defining.{AddsOps, TakesCount};
-ghost use Rattle.std.specs.Prelude.{◌≡◌, ◌<◌, true, length, OnErr};
-ghost use Rattle.bit_grammar.specs.Definition.{definition, has_shape};
-ghost use Rattle.bit_abbrev.specs.HeldPlaces.{ops_of, Extends};
-ghost use Rattle.bit_abbrev.specs.PlaceLayouts.{HasLayout};
-ghost use Rattle.bit_abbrev.specs.Defining.{AddsRead};
-ghost use Rattle.bit_abbrev.specs.DefinitionLists.{AreHeld};
-ghost use Rattle.bit_abbrev.specs.BlockMarks.{IsSound};
-ghost use Rattle.bit_abbrev.specs.Growing.{Alike, AddsMade, AddsOwn, AddsTo};
-ghost use Rattle.bit_abbrev.specs.CompactReading.{AddsDefinition, ReadsOne, TriesOne};
 //! Reading definitions by a reader, which judges them and asks its source.
+
+ghost use Rattle.std.specs.Prelude.{◌≡◌, ◌-◌, ◌<◌, [], length, IfOk, OnOk, OnErr, true};
+ghost use Rattle.bit_grammar.specs.declared.op.Place.TheVariants.{First};
+ghost use Rattle.bit_grammar.specs.declared.shapes.Shapes.{Shapes};
+ghost use Rattle.bit_grammar.specs.Definition.{definition, has_shape, kind, operand, operands, passes, valued};
+ghost use Rattle.bit_grammar.specs.FormatDefinition.{Definable, HasLawfulValue};
+ghost use Rattle.bit_fields.specs.Reader.{IsOnly, Takes, told_by};
+ghost use Rattle.bit_abbrev.specs.BlockMarks.{IsSound};
+ghost use Rattle.bit_abbrev.specs.CompactReading.{AddsDefinition, ReadsOne, TriesOne};
+ghost use Rattle.bit_abbrev.specs.Defining.{AddsOps, AddsRead, TakesCount};
+ghost use Rattle.bit_abbrev.specs.DefinitionLists.{AreHeld};
+ghost use Rattle.bit_abbrev.specs.Growing.{AddsMade, AddsOwn, AddsTo, Alike};
+ghost use Rattle.bit_abbrev.specs.HeldPlaces.{Extends, ops_of};
+ghost use Rattle.bit_abbrev.specs.PlaceLayouts.{HasLayout};
 
 use crate::abbrev::{Abbrev, Ops, fits, kind_of, place_after};
 use crate::definitions::Definitions;

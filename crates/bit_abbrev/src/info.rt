@@ -1,7 +1,8 @@
+//! The definitions for block ids, as a table of their own.
+
 ghost use Rattle.std.specs.Prelude.{◌≡◌, ℕ, OnOk, OnErr};
 ghost use Rattle.bit_grammar.specs.Terms.{defined_at, no_definitions};
 ghost use Rattle.bit_abbrev.specs.Table.{definitions_at, table_shown};
-//! The definitions for block ids, as a table of their own.
 
 use crate::Abbrev;
 use std::alloc::{AllocError, Global};
@@ -17,7 +18,12 @@ pub struct InfoTable {
 }
 
 impl Model for InfoTable {
+    ghost use Rattle.std.specs.Prelude.{ℕ, List};
+    ghost use Rattle.bit_grammar.specs.declared.op.Op.{Op};
+
     ghost Value = { List (ℕ × List (List Op)) };
+
+    ghost use Rattle.bit_abbrev.specs.Table.{table_shown};
 
     ghost view = { λ table. table_shown table.lists.entries };
 }

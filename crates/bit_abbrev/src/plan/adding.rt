@@ -1,11 +1,11 @@
+//! The passes of operands that give one value each.
+
 ghost use Rattle.std.specs.Prelude.{◌≡◌, ◌≤◌, true, false, List, [], ◌∷◌, ◌++◌, slice_get};
 ghost use Rattle.std.specs.Option.{ForSome};
 ghost use Rattle.bit_grammar.specs.declared.op.Op.{Op};
 ghost use Rattle.bit_grammar.specs.declared.op.Op.TheVariants.{Vbr};
-ghost use Rattle.bit_grammar.specs.FormatDefinition.{HasLawfulValue};
 ghost use Rattle.bit_fields.specs.Placed.{AreTopsBehind};
-ghost use Rattle.bit_abbrev.specs.Plans.{Covers, TakesBits};
-//! The passes of operands that give one value each.
+ghost use Rattle.bit_abbrev.specs.Plans.{Covers, HasLawfulWidth, PlaceAdds, TakesBits};
 
 use crate::held_op::HeldOp;
 use crate::plan::{MOST, Pass, Passes};
@@ -108,10 +108,14 @@ impl Passes {
         self.count == 1
     }
 
-    /// Adds an operand, if it fits.
+    /// Adds the operand that begins in a place, if it fits.
     #[inline(always)]
-    pub(super) fn add(&mut self, op: HeldOp) -> bool {
-        match op {
+    pub(super) fn add(&mut self, place: HeldOp) -> bool
+        requires { HasLawfulWidth place }
+        ensures adds { result ≡ true → PlaceAdds place self.old self.new }
+        ensures same { result ≡ false → self.new ≡ self.old }
+    {
+        match place {
             HeldOp::Literal(_) | HeldOp::Great(_) | HeldOp::Vbr(0) => self.skip(0),
             HeldOp::Fixed(width) => self.skip(width),
             HeldOp::Char6 => self.skip(6),
@@ -121,7 +125,7 @@ impl Passes {
                 }
                 self.begin(width)
             }
-            _ => false,
+            HeldOp::Array | HeldOp::Blob | HeldOp::More(_) | HeldOp::End => false,
         }
     }
 }

@@ -1,7 +1,7 @@
 use Rattle.std.proofs.Common.{◌∙◌, [], ap, refl}
 use Rattle.std.proofs.lemmas.Result.{err_from_is_err_and}
 use Rattle.bit_abbrev.specs.Table.{table_shown}
-use Rattle.bit_abbrev.proofs.Table.{found_at, none_at, kept, defined}
+use Rattle.bit_abbrev.proofs.Entries.{found_at, none_at, kept, defined}
 use Rattle.bit_abbrev.proofs.info.add.Goals as goal
 
 pub returns-in_err-push-clause-err : goal.returns-in_err-push-clause-err

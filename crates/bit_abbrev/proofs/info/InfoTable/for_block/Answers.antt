@@ -1,5 +1,5 @@
 use Rattle.std.proofs.Common.{◌∙◌, sym}
-use Rattle.bit_abbrev.proofs.Table.{found_at, none_at}
+use Rattle.bit_abbrev.proofs.Entries.{found_at, none_at}
 use Rattle.bit_abbrev.proofs.info.InfoTable.for_block.Goals as goal
 
 pub returns-in-Some : goal.returns-in-Some
