@@ -25,7 +25,7 @@ use Rattle.bit_fields.proofs.PlacedFields.{beyond_none}
 use Rattle.bit_fields.proofs.PlainRecords.{repeat_both}
 use Rattle.bit_abbrev.specs.declared.held_op.HeldOp.{HeldOp}
 use Rattle.bit_abbrev.specs.declared.held_op.HeldOp.TheVariants.{Literal, Fixed, Vbr, Array, Char6, Blob, Great, More, End}
-use Rattle.bit_abbrev.specs.HeldPlaces.{ops_of}
+use Rattle.bit_abbrev.specs.HeldPlaces.{more, ops_of}
 use Rattle.bit_abbrev.specs.PlaceLayouts.{IsSinglePlace}
 use Rattle.bit_abbrev.specs.Scalars.{TakesScalar}
 use Rattle.bit_abbrev.specs.Taking.{op_from, op_held, GivesBehind, GivesList, GivesMany, GivesRecord, HasMany, HasOneMore, IsField, IsFieldStart, Same}
@@ -122,8 +122,8 @@ one_read op a value b seen = rw seen refl
 pub many_read : (op : Op) (m n k : ℕ) (a b c : BufferedBits) (first later : List ℕ) → k ≡ m + n → Reads (repeat m (scalar op)) a first b → Reads (repeat n (scalar op)) b later c → Reads (repeat k (scalar op)) a (first ++ later) c
 many_read op m n k a b c first later k_is seen more = repeat_both (scalar op) m n k a.position a.bits first later b.position b.bits c.position c.bits k_is seen more
 
-pub has_none : (op : Op) (a : BufferedBits) → HasMany op 0 a a
-has_none op a = ([], refl, refl)
+pub has_none : (op : Op) (count : ℕ) (a : BufferedBits) → count ≡ 0 → HasMany op count a a
+has_none op count a none = rw none ([], refl, refl)
 
 pub has_more : (op : Op) (m n k : ℕ) (a b c : BufferedBits) → k ≡ m + n → HasMany op m a b → HasMany op n b c → HasMany op k a c
 has_more op m n k a b c k_is first later = (first.0 ++ later.0, omega (arith, length-append first.0 later.0, first.1, later.1, k_is), many_read op m n k a b c first.0 later.0 k_is first.2 later.2)
@@ -139,6 +139,30 @@ has_numbers n count a b h = (h.1.1.0, h.1.1.1, subst (Reads (repeat count (vbr n
 pub one_number : (n : ℕ) (a : BufferedBits) (value : ℕ) (b : BufferedBits) → Reads (vbr n) a value b → Reads (scalar (operand.Vbr n)) a value b
 unfolding scalar
 one_number n a value b seen = seen
+
+pub literal_there : (op : HeldOp) (v value : ℕ) (a : BufferedBits) → op ≡ Literal v → value ≡ v → Reads (scalar (op_held op)) a value a
+unfolding scalar
+literal_there op v value a op_is value_is = rw (op_is, value_is) refl
+
+pub great_there : (op : HeldOp) (part value : ℕ) (others : List HeldOp) (a : BufferedBits) → op ≡ Great part → value ≡ part + 2 ^ 16 * more others → Reads (scalar (op_from op others)) a value a
+unfolding scalar
+great_there op part value others a op_is value_is = rw (op_is, value_is) refl
+
+pub nothing_there : (op : HeldOp) (width : ℕ) (a : BufferedBits) → op ≡ Vbr width → width ≡ 0 → Reads (scalar (op_held op)) a 0 a
+unfolding scalar vbr
+nothing_there op width a op_is none = rw (op_is, none) refl
+
+pub fixed_as : (op : HeldOp) (width : ℕ) (a : BufferedBits) (value : ℕ) (b : BufferedBits) → op ≡ Fixed width → Reads (fixed width) a value b → Reads (scalar (op_held op)) a value b
+unfolding scalar
+fixed_as op width a value b op_is seen = rw op_is seen
+
+pub number_as : (op : HeldOp) (width n : ℕ) (a : BufferedBits) (value : ℕ) (b : BufferedBits) → op ≡ Vbr width → n ≡ width → Reads (vbr n) a value b → Reads (scalar (op_held op)) a value b
+unfolding scalar
+number_as op width n a value b op_is n_is seen = rw (op_is, ← n_is) seen
+
+pub character_as : (op : HeldOp) (a : BufferedBits) (code value : ℕ) (b : BufferedBits) → op ≡ Char6 → value ≡ character code → Reads (fixed 6) a code b → Reads (scalar (op_held op)) a value b
+unfolding scalar char6
+character_as op a code value b op_is value_is seen = rw (op_is, value_is, seen) refl
 
 -- a place of which the field has always so many bits
 abbrev pub HasWidth : HeldOp → (width : ℕ) → Type 0
@@ -179,13 +203,27 @@ width_read End width a is there = absurd is
 pub has_fields : (op : HeldOp) (width count : ℕ) (a : BufferedBits) → HasWidth op width → count * width ≤ length a.bits → HasMany (op_held op) count a (beyond a (count * width))
 has_fields op width zero a is there =
     let none : 0 * width ≡ 0 = omega arith in
-    subst (HasMany (op_held op) 0 a) (beyond_none a ∙ ap (beyond a) (sym none)) (has_none (op_held op) a)
+    subst (HasMany (op_held op) 0 a) (beyond_none a ∙ ap (beyond a) (sym none)) (has_none (op_held op) 0 a refl)
 has_fields op width (suc count) a is there =
     let all : suc count * width ≡ width + count * width = omega arith in
     let one = width_read op width a is (omega (arith, there, all)) in
     let rest = has_fields op width count (beyond a width) is (omega (arith, there, all, length-drop width a.bits)) in
     let place : beyond (beyond a width) (count * width) ≡ beyond a (suc count * width) = beyond_both a width (count * width) ∙ ap (beyond a) (sym all) in
     subst (HasMany (op_held op) (suc count) a) place (has_more (op_held op) 1 count (suc count) a (beyond a width) (beyond (beyond a width) (count * width)) (omega arith) (one.0 ∷ [], refl, one_read (op_held op) a one.0 (beyond a width) one.1) rest)
+
+pub no_fields : (op : HeldOp) (width count : ℕ) (a : BufferedBits) → HasWidth op width → width ≡ 0 → HasMany (op_held op) count a a
+no_fields op width count a is none =
+    let zero_bits : count * 0 ≡ 0 = omega arith in
+    subst (HasMany (op_held op) count a) (ap (beyond a) zero_bits ∙ sym (beyond_none a)) (has_fields op 0 count a (subst (HasWidth op) none is) (omega (arith, zero_bits)))
+
+pub width_literal : (op : HeldOp) (v width : ℕ) → op ≡ Literal v → width ≡ 0 → HasWidth op width
+width_literal op v width op_is none = rw op_is none
+
+pub width_fixed : (op : HeldOp) (n width : ℕ) → op ≡ Fixed n → width ≡ n → HasWidth op width
+width_fixed op n width op_is same = rw op_is same
+
+pub width_character : (op : HeldOp) (width : ℕ) → op ≡ Char6 → width ≡ 6 → HasWidth op width
+width_character op width op_is six = rw op_is six
 
 -- ---- the value of a single operand
 
@@ -240,8 +278,13 @@ is_character End h no_literal no_fixed no_number = absurd h
 
 -- ---- what a value sink takes
 
-pub gives_none : {V : Type 0} (took : V → List ℕ → Type 0) (u v : V) (op : Op) (a : BufferedBits) → Same took u v → GivesMany took u v op 0 a a
-gives_none took u v op a same = record { values = []; many = refl; reads = refl; adds = λ before t. subst (took v) (sym (append-nil before)) (same before t) }
+pub gives_none : {V : Type 0} (took : V → List ℕ → Type 0) (u v : V) (op : Op) (count : ℕ) (a : BufferedBits) → count ≡ 0 → Same took u v → GivesMany took u v op count a a
+gives_none took u v op count a none same = rw none (record { values = []; many = refl; reads = refl; adds = λ before t. subst (took v) (sym (append-nil before)) (same before t) })
+
+-- whether it has to know a value
+pub asked : {V : Type 0} (took : V → List ℕ → Type 0) (u v : V) (passes : Bool) → (passes ≡ true → (values others : List ℕ) → took u values → length others ≡ 0 → took v (values ++ others)) → (passes ≡ false → (values : List ℕ) → took u values → took v values) → Same took u v
+asked took u v true when_so when_not before t = subst (took v) (append-nil before) (when_so refl before [] t refl)
+asked took u v false when_so when_not before t = when_not refl before t
 
 pub gives_same : {V : Type 0} (took : V → List ℕ → Type 0) (u v w : V) (op : Op) (count : ℕ) (a b : BufferedBits) → GivesMany took u v op count a b → Same took v w → GivesMany took u w op count a b
 gives_same took u v w op count a b g same = record { values = g.values; many = g.many; reads = g.reads; adds = λ before t. same (before ++ g.values) (g.adds before t) }
@@ -259,6 +302,20 @@ gives_one took u v op a value b seen more = record { values = value ∷ []; many
 
 pub gives_one_more : {V : Type 0} (took : V → List ℕ → Type 0) (u v w : V) (op : Op) (m k : ℕ) (a b : BufferedBits) (value : ℕ) (c : BufferedBits) → k ≡ m + 1 → GivesMany took u v op m a b → Reads (scalar op) b value c → HasOneMore took v w value → GivesMany took u w op k a c
 gives_one_more took u v w op m k a b value c k_is g seen more = gives_more took u v w op m 1 k a b c k_is g (gives_one took v w op b value c seen more)
+
+pub many_forward : {V : Type 0} (took : V → List ℕ → Type 0) (u v : V) (op : Op) (count : ℕ) (a b : BufferedBits) → GivesMany took u v op count a b → a.position ≤ b.position
+many_forward took u v op count a b g = reads_forward (repeat count (scalar op)) a g.values b g.reads
+
+pub many_there : {V : Type 0} (took : V → List ℕ → Type 0) (u v : V) (op : Op) (count : ℕ) (a b : BufferedBits) → GivesMany took u v op count a b → b.position - a.position ≤ length a.bits
+many_there took u v op count a b g = reads_there (repeat count (scalar op)) a g.values b g.reads
+
+pub gives_beyond : {V : Type 0} (took : V → List ℕ → Type 0) (u v : V) (op : Op) (m count len : ℕ) (a b : BufferedBits) → count ≡ m → len ≡ b.position - a.position → GivesMany took u v op m a b → GivesMany took u v op count a (beyond a len)
+gives_beyond took u v op m count len a b count_is len_is g = record {
+  values = g.values;
+  many = g.many ∙ sym count_is;
+  reads = reads_beyond (repeat count (scalar op)) a g.values b len (subst (λ (n : ℕ). Reads (repeat n (scalar op)) a g.values b) (sym count_is) g.reads) len_is;
+  adds = g.adds;
+}
 
 -- values that it need not know
 pub gives_passed : {V : Type 0} (took : V → List ℕ → Type 0) (u v : V) (op : Op) (count : ℕ) (a b : BufferedBits) → HasMany op count a b → ((values others : List ℕ) → took u values → length others ≡ count → took v (values ++ others)) → GivesMany took u v op count a b
