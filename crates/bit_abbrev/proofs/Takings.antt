@@ -17,10 +17,12 @@ use Rattle.bit_grammar.specs.Grammar.{Grammar, repeat, reading}
 use Rattle.bit_grammar.specs.Record.{abbreviated, scalar, singles, unabbreviated, value_count, values_of}
 use Rattle.bit_grammar.specs.Terms.{CodeAndValues, character}
 use Rattle.bit_fields.specs.Buffered.{BufferedBits, Reads, beyond}
+use Rattle.bit_fields.specs.declared.placed.PlacedBits.{PlacedBits}
 use Rattle.bit_fields.specs.Pens.{TakesNumber}
 use Rattle.bit_fields.specs.Placed.{HasNumbers, IsFront}
+use Rattle.bit_fields.specs.PlacedView.{placed}
 use Rattle.bit_fields.proofs.BufferedReads.{reads_beyond, reads_forward, reads_there}
-use Rattle.bit_fields.proofs.Placing.{beyond_both, fixed_shown}
+use Rattle.bit_fields.proofs.Placing.{beyond_both, fixed_shown, length_at}
 use Rattle.bit_fields.proofs.PlacedFields.{beyond_none}
 use Rattle.bit_fields.proofs.PlainRecords.{repeat_both}
 use Rattle.bit_abbrev.specs.declared.held_op.HeldOp.{HeldOp}
@@ -320,6 +322,15 @@ gives_beyond took u v op m count len a b count_is len_is g = record {
 -- values that it need not know
 pub gives_passed : {V : Type 0} (took : V → List ℕ → Type 0) (u v : V) (op : Op) (count : ℕ) (a b : BufferedBits) → HasMany op count a b → ((values others : List ℕ) → took u values → length others ≡ count → took v (values ++ others)) → GivesMany took u v op count a b
 gives_passed took u v op count a b h passes = record { values = h.0; many = h.1; reads = h.2; adds = λ before t. passes before h.0 t h.1 }
+
+-- bytes that it took at once
+pub gives_bytes : {V : Type 0} (took : V → List ℕ → Type 0) (u v : V) (bytes : List ℕ) (a b c : BufferedBits) → Reads (repeat (length bytes) (fixed 8)) a bytes c → b ≡ c → ((values : List ℕ) → took u values → took v (values ++ bytes)) → GivesMany took u v (operand.Fixed 8) (length bytes) a b
+unfolding scalar
+gives_bytes took u v bytes a b c seen b_is adds = record { values = bytes; many = refl; reads = subst (Reads (repeat (length bytes) (fixed 8)) a bytes) (sym b_is) seen; adds = adds }
+
+-- positions of placed bits are below 2 ^ 64
+pub placed_fits : (p : PlacedBits) → (placed p).position + length (placed p).bits < 2 ^ 64
+placed_fits p = omega (arith, p.there, p.fits, length_at p.at p.bytes.now)
 
 pub same_lengthens : {V : Type 0} (took : V → List ℕ → Type 0) (u v : V) → Same took u v → Gains took u v Lengthens
 same_lengthens took u v same before t = (before, same before t, ([], sym (append-nil before)))
