@@ -116,6 +116,67 @@ start_of (Great part) others lawful no_more no_end no_blob no_array = tt
 start_of (More part) others lawful no_more no_end no_blob no_array = absurd (no_more part refl)
 start_of End others lawful no_more no_end no_blob no_array = absurd (no_end refl)
 
+-- ---- their order
+
+no_truth : false ≡ true → ⊥
+no_truth e = cc
+
+-- the order behind an operand of one value
+pub order_behind : (op : Op) (others : List Op) → IsOneValue op → in_order Later (op ∷ others) ≡ true → in_order Later others ≡ true
+order_behind (operand.Literal value) others one order = order
+order_behind (operand.Fixed width) others one order = order
+order_behind (operand.Vbr width) others one order = order
+order_behind operand.Char6 others one order = order
+order_behind operand.Array others one order = absurd one
+order_behind operand.Blob others one order = absurd one
+
+pub shape_behind : (op : Op) (others : List Op) → IsOneValue op → has_shape (op ∷ others) ≡ true → in_order Later others ≡ true
+shape_behind (operand.Literal value) others one order = order
+shape_behind (operand.Fixed width) others one order = order
+shape_behind (operand.Vbr width) others one order = order
+shape_behind operand.Char6 others one order = order
+shape_behind operand.Array others one order = absurd one
+shape_behind operand.Blob others one order = absurd one
+
+-- the code of a record
+pub code_start : (op : HeldOp) (others : List HeldOp) → AllByRecursion HasLawfulValue (ops_of (op ∷ others)) → has_shape (ops_of (op ∷ others)) ≡ true → 0 < length (ops_of (op ∷ others)) → ((part : ℕ) → op ≡ More part → ⊥) → IsFieldStart op
+code_start (Literal value) others lawful shape some no_more = tt
+code_start (Fixed width) others lawful shape some no_more = lawful.0
+code_start (Vbr width) others lawful shape some no_more = lawful.0
+code_start Char6 others lawful shape some no_more = tt
+code_start Array others lawful shape some no_more = absurd (no_truth shape)
+code_start Blob others lawful shape some no_more = absurd (no_truth shape)
+code_start (Great part) others lawful shape some no_more = tt
+code_start (More part) others lawful shape some no_more = absurd (no_more part refl)
+code_start End others lawful shape some no_more = absurd (omega (arith, some))
+
+-- ---- what is left behind the first place
+
+pub lawful_more : (rest : List HeldOp) (op : HeldOp) (others : List HeldOp) (part : ℕ) → rest ≡ op ∷ others → op ≡ More part → ops_of rest ≡ ops_of others
+lawful_more rest op others part is op_is = ap ops_of is ∙ ap (λ (o : HeldOp). ops_of (o ∷ others)) op_is
+
+pub place_start : (rest : List HeldOp) (op : HeldOp) (others : List HeldOp) → rest ≡ op ∷ others → AllByRecursion HasLawfulValue (ops_of rest) → ((part : ℕ) → op ≡ More part → ⊥) → (op ≡ End → ⊥) → (op ≡ Blob → ⊥) → (op ≡ Array → ⊥) → IsFieldStart op
+place_start rest op others is lawful no_more no_end no_blob no_array = start_of op others (subst (λ (places : List HeldOp). AllByRecursion HasLawfulValue (ops_of places)) is lawful) no_more no_end no_blob no_array
+
+pub place_order : (rest : List HeldOp) (op : HeldOp) (others : List HeldOp) → rest ≡ op ∷ others → IsFieldStart op → in_order Later (ops_of rest) ≡ true → in_order Later (ops_of others) ≡ true
+place_order rest op others is start order = order_behind (op_from op others) (ops_of others) (gives_one_value op others start) (ap (in_order Later) (sym (ap ops_of is ∙ held_from op others start)) ∙ order)
+
+pub place_lawful : (rest : List HeldOp) (op : HeldOp) (others : List HeldOp) → rest ≡ op ∷ others → IsFieldStart op → AllByRecursion HasLawfulValue (ops_of rest) → AllByRecursion HasLawfulValue (ops_of others)
+place_lawful rest op others is start lawful =
+    let all = subst (AllByRecursion HasLawfulValue) (ap ops_of is ∙ held_from op others start) lawful in
+    all.1
+
+pub place_shape : (rest : List HeldOp) (op : HeldOp) (others : List HeldOp) → rest ≡ op ∷ others → IsFieldStart op → has_shape (ops_of rest) ≡ true → in_order Later (ops_of others) ≡ true
+place_shape rest op others is start shape = shape_behind (op_from op others) (ops_of others) (gives_one_value op others start) (ap has_shape (sym (ap ops_of is ∙ held_from op others start)) ∙ shape)
+
+-- the code is the first place
+pub first_start : (rest : List HeldOp) (op : HeldOp) (others : List HeldOp) → rest ≡ op ∷ others → AllByRecursion HasLawfulValue (ops_of rest) → has_shape (ops_of rest) ≡ true → 0 < length (ops_of rest) → ((part : ℕ) → op ≡ More part → ⊥) → IsFieldStart op
+first_start rest op others is lawful shape some no_more =
+    code_start op others (subst (λ (places : List HeldOp). AllByRecursion HasLawfulValue (ops_of places)) is lawful) (ap (λ (places : List HeldOp). has_shape (ops_of places)) (sym is) ∙ shape) (subst (λ (places : List HeldOp). 0 < length (ops_of places)) is some) no_more
+
+pub kind_left : (rest : List HeldOp) (op kind : HeldOp) (others : List HeldOp) → rest ≡ op ∷ others → op ≡ kind → ops_of rest ≡ ops_of (kind ∷ others)
+kind_left rest op kind others is op_is = ap ops_of is ∙ ap (λ (o : HeldOp). ops_of (o ∷ others)) op_is
+
 -- ---- fields, one after another
 
 pub one_read : (op : Op) (a : BufferedBits) (value : ℕ) (b : BufferedBits) → Reads (scalar op) a value b → Reads (repeat 1 (scalar op)) a (value ∷ []) b
@@ -449,6 +510,14 @@ behind_list took u v w all left tail most room a b c is none h g =
 pub behind_all : {V : Type 0} (took : V → List ℕ → Type 0) (u v : V) (all left : List Op) (most room : ℕ) (a b : BufferedBits) → left ≡ [] → Behind took u v all left most room a b → GivesBehind took u v all most a b
 behind_all took u v all left most room a b is h =
     behind_list took u v v all left [] most room a b b is refl h (record { values = []; few = omega arith; reads = no_values room b; adds = λ before t. subst (took v) (sym (append-nil before)) t })
+
+-- a single operand at the first place that is left
+pub behind_place : {V : Type 0} (took : V → List ℕ → Type 0) (u v w : V) (all : List Op) (rest : List HeldOp) (op : HeldOp) (others : List HeldOp) (most room next : ℕ) (a b : BufferedBits) (value : ℕ) (c : BufferedBits) → rest ≡ op ∷ others → IsFieldStart op → room ≡ next + 1 → Behind took u v all (ops_of rest) most room a b → Reads (scalar (op_from op others)) b value c → HasOneMore took v w value → Behind took u w all (ops_of others) most next a c
+behind_place took u v w all rest op others most room next a b value c is start room_is h seen more =
+    behind_one took u v w all (ops_of rest) (ops_of others) (op_from op others) most room next a b value c (ap ops_of is ∙ held_from op others start) (gives_one_value op others start) room_is h seen more
+
+pub behind_so : {V : Type 0} (took : V → List ℕ → Type 0) (u v : V) (all left others : List Op) (most room : ℕ) (a b : BufferedBits) → left ≡ others → Behind took u v all left most room a b → Behind took u v all others most room a b
+behind_so took u v all left others most room a b same h = subst (λ (ops : List Op). Behind took u v all ops most room a b) same h
 
 pub behind_lengthens : {V : Type 0} (took : V → List ℕ → Type 0) (u v w : V) (all left : List Op) (most room : ℕ) (a b : BufferedBits) → Behind took u v all left most room a b → Gains took v w Lengthens → Gains took u w Lengthens
 behind_lengthens took u v w all left most room a b h more = lengthens_both took u v w (λ before t. (before ++ h.values, h.adds before t, (h.values, refl))) more

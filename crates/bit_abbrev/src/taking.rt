@@ -415,6 +415,18 @@ fn take_array<'a, V: ValueTaker>(
     take_all(behind, count, element_of(places)?, values)
 }
 
+/// The first place, if there is one, and the others.
+#[inline(always)]
+fn split(places: &[HeldOp]) -> Option<(HeldOp, &[HeldOp])>
+    ensures some { IfSome result (λ parts. places.now ≡ parts.0 ∷ parts.1.now) }
+    ensures none { IfNone result (places.now ≡ []) }
+{
+    match places {
+        [first, others @ ..] => Some((*first, others)),
+        [] => None,
+    }
+}
+
 /// Takes the values of a record by the operands behind its code, and gives the bits behind its fields.
 #[inline(always)]
 fn take_behind_code<'a, V: ValueTaker>(
@@ -431,9 +443,10 @@ fn take_behind_code<'a, V: ValueTaker>(
     let mut bits = from;
     let mut room = most;
     let mut rest = ops;
-    while let [op, others @ ..] = rest {
-        match *op {
-            HeldOp::More(_) => {}
+    while let Some((op, others)) = split(rest) {
+        rest = others;
+        match op {
+            HeldOp::More(_) => continue,
             HeldOp::End => return Some(bits),
             HeldOp::Blob => return take_blob(bits, room, values),
             HeldOp::Array => return take_array(bits, room, others, values),
@@ -442,7 +455,6 @@ fn take_behind_code<'a, V: ValueTaker>(
                 bits = take_one(bits, op, others, values)?;
             }
         }
-        rest = others;
     }
     Some(bits)
 }
@@ -469,13 +481,11 @@ fn take_by<V: ValueTaker>(
         (placed fields.entry) taken.code taken.after) }
     ensures none { IfNone result (Gains V.took values.old values.new Lengthens) }
 {
-    let [first, others @ ..] = ops else {
-        return None;
-    };
-    if let HeldOp::More(_) = *first {
+    let (first, others) = split(ops)?;
+    if let HeldOp::More(_) = first {
         return None;
     }
-    let (code, behind) = first_of(fields, *first, others)?;
+    let (code, behind) = first_of(fields, first, others)?;
     let after = take_behind_code(behind, others, room, values)?.position();
     Some(Taken { code, after })
 }

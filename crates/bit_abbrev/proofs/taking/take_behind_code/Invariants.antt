@@ -8,12 +8,12 @@ use Rattle.bit_abbrev.specs.HeldPlaces.{ops_of}
 use Rattle.bit_abbrev.proofs.Takings.{Behind}
 use Rattle.bit_abbrev.proofs.taking.take_behind_code.Given as goal
 
-abbrev pub invariant-loop-rest : goal.invariant-loop-rest
-invariant-loop-rest g l = record {
+abbrev pub invariant-loop-op : goal.invariant-loop-op
+invariant-loop-op g l = record {
   order : in_order Later (ops_of l.rest) ≡ true;
   lawful : AllByRecursion HasLawfulValue (ops_of l.rest);
   behind : Behind g.V.ValueTaker.took l.fn.values l.values (ops_of l.ops) (ops_of l.rest) l.most l.room (placed l.from) (placed l.bits);
 }
 
-abbrev pub decreases-loop-rest : goal.decreases-loop-rest
-decreases-loop-rest g l = length l.rest
+abbrev pub decreases-loop-op : goal.decreases-loop-op
+decreases-loop-op g l = length l.rest
