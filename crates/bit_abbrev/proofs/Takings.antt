@@ -1,19 +1,19 @@
 -- Fields of buffered bits in order, and what a value sink takes of them.
-use Rattle.std.proofs.Common.{◌≡◌, ◌≢◌, ℕ, zero, suc, ◌+◌, ◌*◌, ◌-◌, ◌^◌, ◌<◌, ◌≤◌, Bool, true, false, List, [], ◌∷◌, ◌++◌, length, take, drop, get_or, slice_get, eq-eqb, Option, Some, None, Result, Ok, Err, refl, sym, ap, ◌∙◌, subst, arith, append_assoc, length-append}
-use Rattle.std.specs.Prelude.{IfNone, IfSome}
+use Rattle.std.proofs.Common.{◌≡◌, ◌≢◌, ℕ, zero, suc, ◌+◌, ◌*◌, ◌-◌, ◌^◌, ◌<◌, ◌≤◌, Bool, true, false, List, [], ◌∷◌, ◌++◌, length, take, get_or, slice_get, eq-eqb, Option, Some, None, refl, sym, ap, ◌∙◌, subst, arith, append_assoc, length-append}
+use Rattle.std.specs.Prelude.{IfNone}
 use Rattle.std.specs.List.{AllByRecursion}
 use Rattle.std.proofs.lemmas.Bool.{le-leb, le-ltb, lt-ltb, ne_eqb}
 use Rattle.std.proofs.lemmas.List.{append-nil, length-drop}
 use Rattle.std.proofs.lemmas.Option.{get_or_from_slice_get, slice_get_within}
 use Rattle.bit_grammar.specs.declared.op.Op.{Op}
 use Rattle.bit_grammar.specs.declared.op.Op.TheVariants as operand
-use Rattle.bit_grammar.specs.declared.op.Place.TheVariants.{First, Element, Later}
+use Rattle.bit_grammar.specs.declared.op.Place.TheVariants.{Later}
 use Rattle.bit_grammar.specs.Bits.{bits_of, number}
 use Rattle.bit_grammar.specs.Blocks.{by_definition, entry}
 use Rattle.bit_grammar.specs.Definition.{has_shape, in_order}
 use Rattle.bit_grammar.specs.Fields.{fixed, vbr, char6, align32, byte}
 use Rattle.bit_grammar.specs.FormatDefinition.{HasLawfulValue}
-use Rattle.bit_grammar.specs.Grammar.{Grammar, repeat, reading}
+use Rattle.bit_grammar.specs.Grammar.{Grammar, repeat}
 use Rattle.bit_grammar.specs.Record.{abbreviated, scalar, singles, unabbreviated, value_count, values_of}
 use Rattle.bit_grammar.specs.Terms.{CodeAndValues, character}
 use Rattle.bit_fields.specs.Buffered.{BufferedBits, Reads, beyond}

@@ -7,7 +7,7 @@ use Rattle.bit_grammar.specs.Record.{scalar, singles, values_of}
 use Rattle.bit_grammar.specs.Terms.{CodeAndValues}
 use Rattle.bit_fields.specs.Buffered.{BufferedBits, Reads, beyond}
 use Rattle.bit_abbrev.specs.declared.held_op.HeldOp.{HeldOp}
-use Rattle.bit_abbrev.specs.declared.held_op.HeldOp.TheVariants.{Literal, Fixed, Vbr, Array, Char6, Blob, Great, More, End}
+use Rattle.bit_abbrev.specs.declared.held_op.HeldOp.TheVariants.{Literal, Fixed, Vbr, Array, Char6, Blob, Great}
 use Rattle.bit_abbrev.specs.HeldPlaces.{more}
 
 -- ---- operands and their places

@@ -1,6 +1,6 @@
-use Rattle.std.proofs.Common.{◌≡◌, ℕ, ap, subst, sym, ◌∙◌}
+use Rattle.std.proofs.Common.{ℕ, ap, subst, sym, ◌∙◌}
 use Rattle.bit_grammar.specs.Fields.{fixed}
-use Rattle.bit_fields.specs.Buffered.{BufferedBits, Reads, beyond}
+use Rattle.bit_fields.specs.Buffered.{Reads, beyond}
 use Rattle.bit_fields.specs.Placed.{IsFront}
 use Rattle.bit_fields.specs.PlacedView.{placed}
 use Rattle.bit_abbrev.proofs.Takings.{front_read}

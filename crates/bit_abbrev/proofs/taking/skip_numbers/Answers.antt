@@ -1,4 +1,4 @@
-use Rattle.std.proofs.Common.{◌≡◌, ℕ, ◌-◌, ◌≤◌, arith}
+use Rattle.std.proofs.Common.{◌-◌, arith}
 use Rattle.bit_grammar.specs.declared.op.Op.TheVariants.{Vbr}
 use Rattle.bit_fields.specs.PlacedView.{placed}
 use Rattle.bit_abbrev.specs.Taking.{HasMany}

@@ -1,4 +1,4 @@
-use Rattle.std.proofs.Common.{◌≡◌, ℕ, ◌*◌, ◌≤◌, length, ap, subst, sym, ◌∙◌}
+use Rattle.std.proofs.Common.{ℕ, ◌*◌, ◌≤◌, length, ap, subst, sym, ◌∙◌}
 use Rattle.bit_fields.specs.Buffered.{beyond}
 use Rattle.bit_fields.specs.PlacedView.{placed}
 use Rattle.bit_abbrev.specs.Taking.{op_held, HasMany}

@@ -1,5 +1,4 @@
-use Rattle.std.proofs.Common.{◌≡◌, ◌-◌, ◌≤◌, arith, subst, sym}
-use Rattle.bit_fields.specs.Buffered.{beyond}
+use Rattle.std.proofs.Common.{◌-◌, arith, subst, sym}
 use Rattle.bit_fields.specs.PlacedView.{placed}
 use Rattle.bit_abbrev.specs.Taking.{op_held, GivesMany}
 use Rattle.bit_abbrev.proofs.Takings.{gives_more}

@@ -1,4 +1,4 @@
-use Rattle.std.proofs.Common.{◌≡◌, ◌∷◌, [], ℕ, ◌+◌, ap, arith, refl, rules, sym, ◌∙◌}
+use Rattle.std.proofs.Common.{◌≡◌, ◌∷◌, ◌+◌, ap, refl, rules}
 use Rattle.std.proofs.lemmas.Option.{IfSome_then}
 use Rattle.bit_grammar.specs.declared.op.Op.TheVariants as operand
 use Rattle.bit_fields.specs.PlacedView.{placed}

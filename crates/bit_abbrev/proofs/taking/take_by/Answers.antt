@@ -1,4 +1,4 @@
-use Rattle.std.proofs.Common.{◌≡◌, ap, ◌∙◌}
+use Rattle.std.proofs.Common.{ap, ◌∙◌}
 use Rattle.bit_fields.specs.PlacedView.{placed}
 use Rattle.bit_abbrev.specs.HeldPlaces.{ops_of}
 use Rattle.bit_abbrev.specs.Taking.{op_from, IsFieldStart}

@@ -1,6 +1,6 @@
-use Rattle.std.proofs.Common.{◌≡◌, ℕ, ◌+◌, ◌-◌, ◌≤◌, arith, refl}
+use Rattle.std.proofs.Common.{◌+◌, ◌-◌, arith, refl}
 use Rattle.bit_fields.specs.PlacedView.{placed}
-use Rattle.bit_abbrev.specs.Taking.{op_held, GivesMany}
+use Rattle.bit_abbrev.specs.Taking.{op_held}
 use Rattle.bit_abbrev.proofs.Takings.{gives_more, gives_one_more, gives_same}
 use Rattle.bit_abbrev.proofs.taking.take_each.Goals as goal
 

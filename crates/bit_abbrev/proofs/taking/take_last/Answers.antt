@@ -1,6 +1,6 @@
-use Rattle.std.proofs.Common.{◌≡◌, ℕ, ◌-◌, ◌≤◌, arith, ap, ◌∙◌}
+use Rattle.std.proofs.Common.{ℕ, ◌-◌, arith, ap, ◌∙◌}
 use Rattle.bit_fields.specs.PlacedView.{placed}
-use Rattle.bit_abbrev.specs.Taking.{op_held, GivesMany}
+use Rattle.bit_abbrev.specs.Taking.{op_held}
 use Rattle.bit_abbrev.proofs.Takings.{gives_beyond, gives_one_more, many_forward, many_there}
 use Rattle.bit_abbrev.proofs.taking.take_last.Goals as goal
 

@@ -1,4 +1,4 @@
-use Rattle.std.proofs.Common.{◌≡◌, ℕ, arith}
+use Rattle.std.proofs.Common.{arith}
 use Rattle.std.proofs.lemmas.Option.{IfSome_then}
 use Rattle.bit_grammar.specs.Blocks.{by_definition, entry}
 use Rattle.bit_grammar.specs.Record.{unabbreviated}
