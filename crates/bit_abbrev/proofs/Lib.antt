@@ -8,6 +8,7 @@ mod Tables
 mod Places
 pub mod Adding
 pub mod Taking
+pub mod Takings
 pub mod Operands
 pub mod Shapes
 pub mod ShortOps

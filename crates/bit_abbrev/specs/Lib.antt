@@ -16,4 +16,5 @@ pub mod Ready
 pub mod Scalars
 pub mod ShortOps
 pub mod Table
+pub mod Taking
 pub mod Values

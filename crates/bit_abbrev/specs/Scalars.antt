@@ -1,11 +1,9 @@
 -- The values of operands that give one value each, in buffered bits.
-use Rattle.std.specs.Prelude.{◌≡◌, ℕ, ◌-◌, ◌<◌, ◌≤◌, List, [], ◌∷◌, length, take}
+use Rattle.std.specs.Prelude.{◌≡◌, ℕ, ◌<◌, ◌≤◌, List, [], ◌∷◌, length}
 use Rattle.bit_grammar.specs.declared.op.Op.{Op}
-use Rattle.bit_grammar.specs.Grammar.{Grammar, repeat}
+use Rattle.bit_grammar.specs.Grammar.{repeat}
 use Rattle.bit_grammar.specs.Record.{scalar}
-use Rattle.bit_grammar.specs.Terms.{CodeAndValues}
 use Rattle.bit_fields.specs.Buffered.{BufferedBits, Reads, beyond}
-use Rattle.bit_abbrev.specs.declared.plan.Passed.{Passed}
 
 -- the value of an operand comes first; so many bits are behind it, if it takes more than 57
 pub record TakesScalar (op : Op) (more : ℕ) (a : BufferedBits) (value : ℕ) (b : BufferedBits) : Type 0 where
@@ -26,17 +24,3 @@ pub record Elements (element : Op) (count : ℕ) (a : BufferedBits) (len : ℕ) 
   pub values : List ℕ
   pub many : length values ≡ count
   pub reads : Reads (repeat count (scalar element)) a values (beyond a len)
-
--- A record that a rule reads from these bits was read: its values are the first ones of a list.
-abbrev pub ReadsFew : Grammar CodeAndValues → BufferedBits → Passed → List ℕ → Type 0
-ReadsFew rule a passed list = (passed.len ≤ length a.bits)
-    × Reads rule a (record { code = passed.code; values = take passed.count list }) (beyond a passed.len)
-
--- The values of single operands were read, which a record has behind its code: it began at `first`.
-pub record ReadsSingles (first code room : ℕ) (others : List Op) (a : BufferedBits) (passed : Passed) (list : List ℕ) : Type 0 where
-  pub after : BufferedBits
-  pub reads : HasScalars others a (take passed.count list) after
-  pub len : passed.len ≡ after.position - first
-  pub code_is : passed.code ≡ code
-  pub many : passed.count ≡ length others
-  pub few : passed.count ≤ room

@@ -26,6 +26,7 @@ mod placed;
 mod plan;
 mod plans;
 mod record;
+mod scalars;
 mod table;
 mod taking;
 mod walk;
@@ -42,8 +43,8 @@ pub use layout::Layout;
 pub use list::Head;
 pub use plan::{MARGIN, Plan};
 pub use record::{Begun, read_abbreviated, read_record};
+pub use scalars::value_of;
 pub use taking::{Taken, take_record};
 pub use walk::{
-    Coming, Counting, FEW, FIELDS, Here, Listing, MOST_VALUES, Planned, Visitor, Walked, value_of,
-    walk,
+    Coming, Counting, FEW, FIELDS, Here, Listing, MOST_VALUES, Planned, Visitor, Walked, walk,
 };
