@@ -3,7 +3,7 @@ use Rattle.std.proofs.Common.{◌≡◌, ℕ, zero, suc, ◌+◌, ◌-◌, ◌^�
 use Rattle.std.specs.List.{All}
 use Rattle.std.specs.Option.{option_map, option_map_or}
 use Rattle.std.proofs.lemmas.Bool.{cases_lt}
-use Rattle.std.proofs.lemmas.List.{append-nil, drop-map, length-append, length-drop, length-map, length-take-le, take-append-drop, take-map, take-take, take_all}
+use Rattle.std.proofs.lemmas.List.{append-nil, drop-map, get_or-take, length-append, length-drop, length-map, length-take-le, take-append-drop, take-map, take-take, take_all}
 use Rattle.std.proofs.lemmas.Option.{get_or_from_slice_get, slice_get-get_or, slice_get-map, slice_get_within}
 use Rattle.std.proofs.lemmas.List.Elements.{All-from_recursion}
 use Rattle.std.proofs.lemmas.Bool.{le-ltb, lt-ltb}
@@ -13,14 +13,16 @@ use Rattle.bit_abbrev.specs.declared.held_op.HeldOp.{HeldOp}
 use Rattle.bit_abbrev.specs.declared.list.Head.{Head}
 use Rattle.bit_abbrev.specs.declared.table.Run.{Run}
 use Rattle.bit_abbrev.specs.declared.table.MadeTable.{MadeTable}
+use Rattle.bit_abbrev.specs.declared.plan.Plan.{Plan}
 use Rattle.bit_abbrev.specs.declared.definitions.Marks.{Marks}
 use Rattle.bit_abbrev.specs.declared.definitions.Definitions.{Definitions}
 use Rattle.bit_abbrev.specs.declared.definitions.InForce.{InForce}
 use Rattle.bit_abbrev.specs.HeldPlaces.{ops_of}
 use Rattle.bit_abbrev.specs.DefinitionLists.{definitions_in, part, AreHeld, IsHeld}
 use Rattle.bit_abbrev.specs.InfoTables.{table_in, IsFinished, IsMade, IsRunFor}
-use Rattle.bit_abbrev.specs.BlockMarks.{all_in, all_of_table, blocks_in, blocks_of, from_table, in_force, last_table, list_at, own_of, run_of_table, shared_in, used_by, AreInForce, AreOpen, HasRunOf, IsHeadAt, IsWithin, Kept, MarksOf, Put, Shares, Stands}
+use Rattle.bit_abbrev.specs.BlockMarks.{all_in, all_of_table, blocks_in, blocks_of, from_table, in_force, last_table, list_at, own_of, run_of_table, shared_in, used_by, AreInForce, AreOpen, ArePlanned, HasRunOf, IsHeadAt, IsWithin, Kept, MarksOf, Put, Shares, Stands}
 use Rattle.bit_abbrev.proofs.DefinitionLists.{definitions_more}
+use Rattle.bit_abbrev.proofs.NotedPlans.{planned_same}
 use Rattle.bit_abbrev.proofs.Uniting.{all_drop, all_take}
 
 -- ---- lists
@@ -29,7 +31,7 @@ same_get : {X : Type 0} (xs ys : List X) (k : ℕ) → k < length xs → k < len
 same_get [] ys k old new same = absurd (omega (arith, old))
 same_get (x ∷ xs) ys k old new same = slice_get-get_or ys k x new ∙ ap Some (same x) ∙ sym (slice_get-get_or (x ∷ xs) k x old)
 
-empty_run : (table : Option MadeTable) (start count : ℕ) → count ≡ 0 → run_of_table table start count ≡ []
+pub empty_run : (table : Option MadeTable) (start count : ℕ) → count ≡ 0 → run_of_table table start count ≡ []
 empty_run None start count none = refl
 empty_run (Some t) start count none = let no : start + count - start ≡ 0 = omega (arith, none) in rw no refl
 
@@ -44,25 +46,28 @@ own_count d = length-map d.own.heads.items (λ (h : Head). ops_of (part d.own.op
 
 -- ---- no definitions
 
-pub none_made : {t : MadeTable} → t.list.ops.items ≡ [] → t.list.heads.items ≡ [] → t.groups.items ≡ [] → IsMade t
-none_made ops heads groups = record {
+pub none_made : {t : MadeTable} → t.list.ops.items ≡ [] → t.list.heads.items ≡ [] → t.plans.items ≡ [] → t.groups.items ≡ [] → IsMade t
+none_made ops heads plans groups = record {
   held = rw heads tt;
+  none = plans;
   follow = rw (heads, groups) refl;
   few_ops = rw ops (omega arith);
   few_heads = rw heads (omega arith);
 }
 
-pub none_stand : {d : Definitions} → d.own.ops.items ≡ [] → d.own.heads.items ≡ [] → IsMade d.made → d.tables.items ≡ [] → Stands d []
-none_stand ops heads made tables = record {
+pub none_stand : {d : Definitions} → d.own.ops.items ≡ [] → d.own.heads.items ≡ [] → d.plans.items ≡ [] → IsMade d.made → d.tables.items ≡ [] → Stands d []
+none_stand ops heads plans made tables = record {
   sound = record {
     own = rw heads tt;
     few_ops = rw ops (omega arith);
     few_heads = rw heads (omega arith);
+    few_plans = rw plans (omega arith);
     made = made;
     tables = λ k t lt. absurd (omega (arith, lt, ap length tables));
     few_tables = rw tables (omega arith);
   };
   are_open = tt;
+  planned = tt;
   least = omega arith;
   most = rw tables (omega arith);
 }
@@ -78,6 +83,7 @@ none_shared d id tables = rw tables refl
 pub record Entered (d : Definitions) (outer : Marks) (run : Run) (m : Marks) : Type 0 where
   pub heads : m.heads ≡ length d.own.heads.items
   pub ops : m.ops ≡ length d.own.ops.items
+  pub plans : m.plans ≡ length d.plans.items
   pub before : m.before ≡ outer.used
   pub start : m.start ≡ run.start
   pub count : m.count ≡ run.count
@@ -114,6 +120,11 @@ entered {d} {outer} {id} {run} {m} frames e has is s =
         },
         within frames is s.are_open,
         s.are_open,
+      );
+      planned = (
+        omega (arith, e.plans),
+        λ k other from lt. absurd (omega (arith, from, lt, e.plans)),
+        rw (e.plans, take_all m.heads (own_of d) (omega (arith, e.heads, own_count d))) s.planned,
       );
       least = most.0;
       most = most.2;
@@ -162,6 +173,17 @@ pub used_before : (m : Marks) (outer : List Marks) → IsWithin m outer → used
 used_before m [] is = sym is
 used_before m (o ∷ others) is = sym is.0
 
+-- their plans are right for other tables in which theirs are the same
+planned_tables : (d : Definitions) (own : List (List Op)) (new : List MadeTable) (plans : List Plan) (used to : ℕ) (frames : List Marks) → used_by frames ≤ used → used ≤ length d.tables.items → used ≤ length new → ((k : ℕ) (t : MadeTable) → k < used → get_or new k t ≡ get_or d.tables.items k t) → AreOpen d frames
+    → ArePlanned own d.tables.items plans to frames → ArePlanned own new plans to frames
+planned_tables d own new plans used to [] most first second same are planned = tt
+planned_tables d own new plans used to (m ∷ outer) most first second same are planned =
+    let table : from_table new m ≡ from_table d.tables.items m = same_from d.tables.items new used m 0 most first second same (λ some. (are.0.run some).0) in (
+      planned.0,
+      λ k other from lt. rw table (planned.1 k other from lt),
+      planned_tables d (take m.heads own) new plans used m.plans outer (omega (arith, most, are.0.before, used_before m outer are.1)) first second same are.2 planned.2,
+    )
+
 -- marks of blocks around what is kept
 record Around (frames : List Marks) (heads ops used : ℕ) : Type 0 where
   at : (m : Marks) (outer : List Marks) → frames ≡ m ∷ outer → (m.heads ≤ heads) × (m.ops ≤ ops) × (m.used ≤ used)
@@ -196,23 +218,28 @@ still_open d e heads ops used more_ops more_heads few_ops few_heads least same (
       still_open d e heads ops used more_ops more_heads few_ops few_heads least same outer (around_outer m outer heads ops used a.0 a.1 (omega (arith, a.2, o.before)) are.1) are.2,
     )
 
-pub left : (d e : Definitions) (m : Marks) (outer : List Marks) → Stands d (m ∷ outer) → e.own.ops.items ≡ take m.ops d.own.ops.items → e.own.heads.items ≡ take m.heads d.own.heads.items → e.made ≡ d.made → Kept m.before d.tables.items e.tables.items → Stands e outer
-left d e m outer s more_ops more_heads made kept =
+pub left : (d e : Definitions) (m : Marks) (outer : List Marks) → Stands d (m ∷ outer) → e.own.ops.items ≡ take m.ops d.own.ops.items → e.own.heads.items ≡ take m.heads d.own.heads.items → e.plans.items ≡ take m.plans d.plans.items → e.made ≡ d.made → Kept m.before d.tables.items e.tables.items → Stands e outer
+left d e m outer s more_ops more_heads more_plans made kept =
     let are = s.are_open in
     let o = are.0 in
     let ops_count : length e.own.ops.items ≡ m.ops = ap length more_ops ∙ length-take-le m.ops d.own.ops.items o.ops in
     let heads_count : length e.own.heads.items ≡ m.heads = ap length more_heads ∙ length-take-le m.heads d.own.heads.items o.heads in
+    let plans_count : length e.plans.items ≡ m.plans = ap length more_plans ∙ length-take-le m.plans d.plans.items s.planned.0 in
     let least : m.before ≤ length e.tables.items = kept.least (omega (arith, o.before, o.used)) in
+    let own : own_of e ≡ take m.heads (own_of d) = rw (more_ops, more_heads) (definitions_less d.own.ops.items d.own.heads.items m.ops m.heads o.before_it) in
+    let still = planned_tables d (take m.heads (own_of d)) e.tables.items d.plans.items m.before m.plans outer (omega (arith, used_before m outer are.1)) (omega (arith, o.before, o.used)) least kept.same are.2 s.planned.2 in
     record {
       sound = record {
         own = rw (more_ops, more_heads) o.before_it;
         few_ops = omega (arith, ops_count, o.ops, s.sound.few_ops);
         few_heads = omega (arith, heads_count, o.heads, s.sound.few_heads);
+        few_plans = omega (arith, plans_count, s.planned.0, s.sound.few_plans);
         made = rw made s.sound.made;
         tables = kept.each s.sound.tables;
         few_tables = omega (arith, kept.shorter, s.sound.few_tables);
       };
       are_open = still_open d e m.heads m.ops m.before more_ops more_heads o.ops o.heads least kept.same outer (around_outer m outer m.heads m.ops m.before (omega arith) (omega arith) (omega arith) are.1) are.2;
+      planned = rw (own, plans_count) (planned_same (take m.heads (own_of d)) e.tables.items d.plans.items e.plans.items m.plans outer (λ k other lt. ap (λ (l : List Plan). get_or l k other) more_plans ∙ get_or-take m.plans d.plans.items k other lt) still);
       least = omega (arith, used_before m outer are.1, least);
       most = omega (arith, used_before m outer are.1, kept.most);
     }
@@ -247,16 +274,18 @@ around_open d (m ∷ outer) are = record {
       subst (λ (x : Marks). (x.heads ≤ length d.own.heads.items) × (x.ops ≤ length d.own.ops.items) × (x.used ≤ length d.tables.items)) it (are.0.heads, are.0.ops, are.0.used);
 }
 
-pub shared_table : (d e : Definitions) (table : MadeTable) (frames : List Marks) → Stands d frames → e.own ≡ d.own → IsMade e.made → IsFinished table → used_by frames + 1 < 2 ^ 32 → Put (used_by frames) d.tables.items e.tables.items table → Stands e frames
-shared_table d e table frames s own made finished few put =
+pub shared_table : (d e : Definitions) (table : MadeTable) (frames : List Marks) → Stands d frames → e.own ≡ d.own → e.plans ≡ d.plans → IsMade e.made → IsFinished table → used_by frames + 1 < 2 ^ 32 → Put (used_by frames) d.tables.items e.tables.items table → Stands e frames
+shared_table d e table frames s own plans made finished few put =
     let used = used_by frames in
     let ops : e.own.ops.items ≡ d.own.ops.items = cc in
     let heads : e.own.heads.items ≡ d.own.heads.items = cc in
+    let still_plans : e.plans.items ≡ d.plans.items = cc in
     record {
       sound = record {
         own = rw (ops, heads) s.sound.own;
         few_ops = rw ops s.sound.few_ops;
         few_heads = rw heads s.sound.few_heads;
+        few_plans = rw still_plans s.sound.few_plans;
         made = made;
         tables = λ k t lt. elim (cases_lt k used) [
           | inl below ↦ rw (put.same k t below) (s.sound.tables k t (omega (arith, below, s.least)))
@@ -265,6 +294,7 @@ shared_table d e table frames s own made finished few put =
         few_tables = omega (arith, put.count, few);
       };
       are_open = still_open d e (length d.own.heads.items) (length d.own.ops.items) used (ops ∙ sym (take_all (length d.own.ops.items) d.own.ops.items (omega arith))) (heads ∙ sym (take_all (length d.own.heads.items) d.own.heads.items (omega arith))) (omega arith) (omega arith) (omega (arith, put.count)) put.same frames (around_all d frames s.are_open) s.are_open;
+      planned = rw (ops, heads, still_plans) (planned_tables d (own_of d) e.tables.items d.plans.items used (length d.plans.items) frames (omega arith) s.least (omega (arith, put.count)) put.same s.are_open s.planned);
       least = omega (arith, put.count);
       most = omega (arith, put.count);
     }
@@ -283,29 +313,32 @@ shared_now d e table used put id =
     at : length e.tables.items - 1 ≡ used
     at = omega (arith, put.count)
 
-pub kept_table : (d e : Definitions) (frames : List Marks) → Stands d frames → e.own ≡ d.own → IsMade e.made → e.tables.items ≡ d.tables.items → Stands e frames
-kept_table d e frames s own made tables =
+pub kept_table : (d e : Definitions) (frames : List Marks) → Stands d frames → e.own ≡ d.own → e.plans ≡ d.plans → IsMade e.made → e.tables.items ≡ d.tables.items → Stands e frames
+kept_table d e frames s own plans made tables =
     let ops : e.own.ops.items ≡ d.own.ops.items = cc in
     let heads : e.own.heads.items ≡ d.own.heads.items = cc in
+    let still_plans : e.plans.items ≡ d.plans.items = cc in
     record {
       sound = record {
         own = rw (ops, heads) s.sound.own;
         few_ops = rw ops s.sound.few_ops;
         few_heads = rw heads s.sound.few_heads;
+        few_plans = rw still_plans s.sound.few_plans;
         made = made;
         tables = rw tables s.sound.tables;
         few_tables = rw tables s.sound.few_tables;
       };
       are_open = still_open d e (length d.own.heads.items) (length d.own.ops.items) (length d.tables.items) (ops ∙ sym (take_all (length d.own.ops.items) d.own.ops.items (omega arith))) (heads ∙ sym (take_all (length d.own.heads.items) d.own.heads.items (omega arith))) (omega arith) (omega arith) (omega (arith, ap length tables)) (λ k t lt. rw tables refl) frames (around_open d frames s.are_open) s.are_open;
+      planned = rw (ops, heads, still_plans, tables) s.planned;
       least = rw tables s.least;
       most = rw tables s.most;
     }
 
-pub share_stands : {T E : Type 0} (d e : Definitions) (result : Result T E) (outer : Marks) → OnOk result (Shares d.made d.tables.items e.tables.items outer.used) → OnErr result (e.tables.items ≡ d.tables.items) → e.own ≡ d.own → IsMade e.made → (frames : List Marks) → MarksOf frames outer → Stands d frames → Stands e frames
-share_stands d e (Ok x) outer ok err own made = λ frames is s.
+pub share_stands : {T E : Type 0} (d e : Definitions) (result : Result T E) (outer : Marks) → OnOk result (Shares d.made d.tables.items e.tables.items outer.used) → OnErr result (e.tables.items ≡ d.tables.items) → e.own ≡ d.own → e.plans ≡ d.plans → IsMade e.made → (frames : List Marks) → MarksOf frames outer → Stands d frames → Stands e frames
+share_stands d e (Ok x) outer ok err own plans made = λ frames is s.
     let used = used_of frames outer is in
-    shared_table d e ok.table frames s own made ok.finished (omega (arith, used, ok.few)) (subst (λ (n : ℕ). Put n d.tables.items e.tables.items ok.table) (sym used) ok.put)
-share_stands d e (Err x) outer ok err own made = λ frames is s. kept_table d e frames s own made err
+    shared_table d e ok.table frames s own plans made ok.finished (omega (arith, used, ok.few)) (subst (λ (n : ℕ). Put n d.tables.items e.tables.items ok.table) (sym used) ok.put)
+share_stands d e (Err x) outer ok err own plans made = λ frames is s. kept_table d e frames s own plans made err
 
 pub share_blocks : {T E : Type 0} (d e : Definitions) (result : Result T E) (outer : Marks) → OnOk result (Shares d.made d.tables.items e.tables.items outer.used) → OnErr result (e.tables.items ≡ d.tables.items) → e.own ≡ d.own → (frames : List Marks) → MarksOf frames outer → Stands d frames → blocks_of e frames ≡ blocks_of d frames
 share_blocks d e (Ok x) outer ok err own = λ frames is s. shared_blocks d e ok.table frames s own (subst (λ (n : ℕ). Put n d.tables.items e.tables.items ok.table) (sym (used_of frames outer is)) ok.put)

@@ -37,14 +37,15 @@ back {old} start longer begins = rw longer.is (take_at old longer.added start (s
 
 -- ---- a definition of the innermost block
 
-pub own_read : (shapes : Shapes) (a : Reader) (result : Result (Unit {0}) Fault) (b : Reader) (d e : Definitions) → ReadsOne shapes a result b d.own e.own → e.made ≡ d.made → e.tables.items ≡ d.tables.items → AddsRead (definition shapes) a result b (AddsOwn d e)
-own_read shapes a (Ok x) b d e r made tables = (r.0, r.1, adds_own d e r.0 r.2 made tables)
-own_read shapes a (Err fault) b d e r made tables = r.0
+pub own_read : (shapes : Shapes) (a : Reader) (result : Result (Unit {0}) Fault) (b : Reader) (d e : Definitions) → ReadsOne shapes a result b d.own e.own → e.plans.items ≡ d.plans.items → e.made ≡ d.made → e.tables.items ≡ d.tables.items → AddsRead (definition shapes) a result b (AddsOwn d e)
+own_read shapes a (Ok x) b d e r plans made tables = (r.0, r.1, adds_own d e r.0 r.2 plans made tables)
+own_read shapes a (Err fault) b d e r plans made tables = r.0
 
-pub own_alike : (shapes : Shapes) (a : Reader) (result : Result (Unit {0}) Fault) (b : Reader) (d e : Definitions) → ReadsOne shapes a result b d.own e.own → IsMade d.made → e.made ≡ d.made → e.tables.items ≡ d.tables.items → OnErr result (Alike d e)
-own_alike shapes a (Ok x) b d e r is_made made tables = tt
-own_alike shapes a (Err fault) b d e r is_made made tables =
+pub own_alike : (shapes : Shapes) (a : Reader) (result : Result (Unit {0}) Fault) (b : Reader) (d e : Definitions) → ReadsOne shapes a result b d.own e.own → e.plans.items ≡ d.plans.items → IsMade d.made → e.made ≡ d.made → e.tables.items ≡ d.tables.items → OnErr result (Alike d e)
+own_alike shapes a (Ok x) b d e r plans is_made made tables = tt
+own_alike shapes a (Err fault) b d e r plans is_made made tables =
     let ops : e.made.list.ops.items ≡ d.made.list.ops.items = cc in
     let heads : e.made.list.heads.items ≡ d.made.list.heads.items = cc in
+    let made_plans : e.made.plans.items ≡ d.made.plans.items = cc in
     let groups : e.made.groups.items ≡ d.made.groups.items = cc in
-    alike d e is_made r.1 r.2 ops heads groups tables
+    alike d e is_made r.1 r.2 plans ops heads made_plans groups tables

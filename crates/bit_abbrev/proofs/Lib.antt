@@ -1,28 +1,29 @@
 pub mod Breaks
-mod Encoded
-mod Heads
-mod HeldLists
-mod Ordered
 pub mod Entries
-mod Tables
-mod Places
 pub mod Adding
 pub mod Taking
 pub mod Takings
 pub mod Operands
 pub mod Shapes
 pub mod ShortOps
-pub mod Layouts
 pub mod Records
 mod Several
 pub mod Covering
-pub mod Grouping
 pub mod PlanPlaces
 pub mod PassedRecords
 pub mod Singles
 pub mod FewValues
 pub mod Buffered
 pub mod Missing
-pub mod HeldRecords
 mod PlacesHeld
+mod PlaceLayouts
+mod DefinitionLists
+mod NotedPlans
+mod InfoTables
+mod Uniting
+mod Sorting
+mod BlockMarks
+mod BlockPlans
+mod Growing
+mod PlacedDefinitions
 mod CompactReading

@@ -18,11 +18,11 @@ use Rattle.bit_grammar.specs.Grammar.{Grammar, at, gives, reading}
 use Rattle.bit_grammar.specs.Fields.{fixed, vbr}
 use Rattle.bit_grammar.specs.Definition.{encoding, fits, passes, fixed_lawful, vbr_lawful, kind, valued, operand, operands, definition, has_shape, place_after}
 use Rattle.bit_grammar.specs.FormatDefinition.{HasLawfulValue}
-use Rattle.bit_fields.specs.Buffered.{BufferedBits, Reads, Sees, beyond, reader_at}
+use Rattle.bit_fields.specs.Buffered.{BufferedBits, Reads, beyond, reader_at}
 use Rattle.bit_fields.specs.PlacedView.{placed}
 use Rattle.bit_fields.specs.Reader.{Took}
 use Rattle.bit_fields.specs.declared.placed.PlacedBits.{PlacedBits}
-use Rattle.bit_fields.proofs.BufferedReads.{took_reads, seen_took}
+use Rattle.bit_fields.proofs.BufferedReads.{reads_before, reads_beyond, took_reads}
 use Rattle.bit_fields.proofs.Composing.{took_nothing, took_then}
 use Rattle.bit_abbrev.specs.declared.held_op.HeldOp.{HeldOp}
 use Rattle.bit_abbrev.specs.declared.held_op.HeldOp.TheVariants as places
@@ -33,10 +33,9 @@ use Rattle.bit_abbrev.specs.InfoTables.{IsMade}
 use Rattle.bit_abbrev.specs.Growing.{Alike, AddsOwn}
 use Rattle.bit_abbrev.specs.PlacedDefinitions.{place_behind, AddsPlaced, IsShortPlace, PlacesOne, PlacesOp, PlacesOps, ReadsOp}
 use Rattle.bit_abbrev.proofs.Growing.{adds_own, alike}
-use Rattle.bit_abbrev.proofs.Buffered.{took_at}
 use Rattle.bit_abbrev.proofs.Operands.{kind_encoded, kind_literal, fixed_took, vbr_took, counted, placed as operand_there, Defines, begin, go_on, is_done, all_definable, order_judged}
 use Rattle.bit_abbrev.proofs.PlacesHeld.{held_behind, now_held}
-use Rattle.bit_abbrev.proofs.ShortOps.{any_fixed, any_vbr, fixed_front, judged}
+use Rattle.bit_abbrev.proofs.ShortOps.{any_fixed, any_vbr, fixed_front, judged, took_at}
 
 -- ---- what comes at the beginning of a word
 
@@ -44,8 +43,8 @@ use Rattle.bit_abbrev.proofs.ShortOps.{any_fixed, any_vbr, fixed_front, judged}
 pub front_reads : {A : Type 0} (rule : Grammar A) (n word : ℕ) (a : BufferedBits) (value : A) (b : BufferedBits) → bits_of n word ≡ take n a.bits → Reads rule (word_at n word a.position) value b → Reads rule a value (beyond a (b.position - a.position))
 front_reads rule n word a value b is seen =
     let all : a.bits ≡ bits_of n word ++ drop n a.bits = sym (take-append-drop n a.bits) ∙ ap (λ (s : List Bool). s ++ drop n a.bits) (sym is) in
-    let sees : Sees (reader_at a) (word_at n word a.position) = record { live = refl; position = refl; front = λ k. (drop n a.bits, all) } in
-    took_reads rule a value (beyond a (b.position - a.position)) (seen_took rule (reader_at a) (word_at n word a.position) value b sees seen).0
+    let whole : BufferedBits = record { position = b.position; bits = b.bits ++ drop n a.bits } in
+    reads_beyond rule a value whole (b.position - a.position) (ap (reading rule a.position) all ∙ reads_before rule (word_at n word a.position) value b seen (drop n a.bits)) refl
 
 pub passed : (shapes : Shapes) (fit : Bool) → fit ≡ true → passes shapes fit ≡ true
 passed AtDefinition fit is = is
@@ -173,14 +172,15 @@ order_placed count a b old new p = order_judged AtDefinition count (reader_at a)
 
 -- ---- a definition of the innermost block
 
-pub own_placed : (a : BufferedBits) (result : Option PlacedBits) (d e : Definitions) → IfSome result (λ after. PlacesOne a (placed after) d.own e.own) → e.made ≡ d.made → e.tables.items ≡ d.tables.items → IfSome result (λ after. AddsPlaced a (placed after) (AddsOwn d e))
-own_placed a (Some after) d e h made tables = (h.0, h.1, adds_own d e h.0 h.2 made tables)
-own_placed a None d e h made tables = tt
+pub own_placed : (a : BufferedBits) (result : Option PlacedBits) (d e : Definitions) → IfSome result (λ after. PlacesOne a (placed after) d.own e.own) → e.plans.items ≡ d.plans.items → e.made ≡ d.made → e.tables.items ≡ d.tables.items → IfSome result (λ after. AddsPlaced a (placed after) (AddsOwn d e))
+own_placed a (Some after) d e h plans made tables = (h.0, h.1, adds_own d e h.0 h.2 plans made tables)
+own_placed a None d e h plans made tables = tt
 
-pub own_declined : (result : Option PlacedBits) (d e : Definitions) → IfNone result (e.own.ops.items ≡ d.own.ops.items) → IfNone result (e.own.heads.items ≡ d.own.heads.items) → IsMade d.made → e.made ≡ d.made → e.tables.items ≡ d.tables.items → IfNone result (Alike d e)
-own_declined (Some after) d e ops heads is_made made tables = tt
-own_declined None d e ops heads is_made made tables =
+pub own_declined : (result : Option PlacedBits) (d e : Definitions) → IfNone result (e.own.ops.items ≡ d.own.ops.items) → IfNone result (e.own.heads.items ≡ d.own.heads.items) → e.plans.items ≡ d.plans.items → IsMade d.made → e.made ≡ d.made → e.tables.items ≡ d.tables.items → IfNone result (Alike d e)
+own_declined (Some after) d e ops heads plans is_made made tables = tt
+own_declined None d e ops heads plans is_made made tables =
     let made_ops : e.made.list.ops.items ≡ d.made.list.ops.items = cc in
     let made_heads : e.made.list.heads.items ≡ d.made.list.heads.items = cc in
+    let made_plans : e.made.plans.items ≡ d.made.plans.items = cc in
     let groups : e.made.groups.items ≡ d.made.groups.items = cc in
-    alike d e is_made ops heads made_ops made_heads groups tables
+    alike d e is_made ops heads plans made_ops made_heads made_plans groups tables

@@ -1,8 +1,8 @@
 -- Operands of few bits: what they read, and what a reader takes.
-use Rattle.std.proofs.Common.{◌≡◌, ℕ, ◌+◌, ◌-◌, ◌*◌, ◌/◌, ◌%◌, ◌^◌, ◌<◌, ◌≤◌, Bool, true, List, length, take, Option, Some, None, Result, Ok, Err, ◌⊎◌, inl, inr, refl, sym, ap, subst, arith, ◌∙◌}
-use Rattle.std.specs.Prelude.{IfSome, ◌≢◌}
+use Rattle.std.proofs.Common.{◌≡◌, ℕ, ◌+◌, ◌-◌, ◌*◌, ◌/◌, ◌%◌, ◌^◌, ◌<◌, ◌≤◌, Bool, true, List, length, take, Ok, refl, sym, ap, subst, arith, ◌∙◌}
+use Rattle.std.specs.Prelude.{◌≢◌}
 use Rattle.std.proofs.lemmas.Nat.{mod_below, pow_pos}
-use Rattle.std.proofs.lemmas.Bool.{cases_lt, ne_eqb, le-leb}
+use Rattle.std.proofs.lemmas.Bool.{ne_eqb, le-leb}
 use Rattle.bit_grammar.specs.declared.op.Op.{Op}
 use Rattle.bit_grammar.specs.declared.op.Op.TheVariants.{Literal, Fixed, Vbr, Array, Char6, Blob}
 use Rattle.bit_grammar.specs.declared.op.Kind.{Kind}
@@ -11,27 +11,28 @@ use Rattle.bit_grammar.specs.declared.op.Place.{Place}
 use Rattle.bit_grammar.specs.declared.op.Place.TheVariants.{First as first, Element as element, Later as later}
 use Rattle.bit_grammar.specs.declared.shapes.Shapes.{Shapes}
 use Rattle.bit_grammar.specs.declared.shapes.Shapes.TheVariants.{AtDefinition, AtUse}
-use Rattle.bit_grammar.specs.declared.reason.Reason.TheVariants.{AbbrevShape, FieldWidth, Truncated}
-use Rattle.bit_grammar.specs.Bits.{bits_of, number}
-use Rattle.bit_grammar.specs.Grammar.{at, gives, test, reading, split, ◌>>=◌, ◌and_then◌}
+use Rattle.bit_grammar.specs.declared.reason.Reason.TheVariants.{AbbrevShape, FieldWidth}
+use Rattle.bit_grammar.specs.Bits.{bits_of}
+use Rattle.bit_grammar.specs.Grammar.{Grammar, at, gives, test, reading}
 use Rattle.bit_grammar.specs.Grammar as grammar
 use Rattle.bit_grammar.specs.Fields.{fixed, vbr}
 use Rattle.bit_grammar.specs.Definition.{encoding, fits, passes, fixed_lawful, vbr_lawful, kind, valued, operand}
 use Rattle.bit_grammar.proofs.Bits.Numbers.{length-bits_of}
-use Rattle.bit_grammar.specs.Input.{any_bits}
-use Rattle.bit_fields.specs.Buffered.{BufferedBits, Reads, Sees, beyond, reader_at}
+use Rattle.bit_fields.specs.Buffered.{BufferedBits, Reads, beyond, reader_at}
 use Rattle.bit_fields.specs.Inside.{part_of}
-use Rattle.bit_fields.specs.Reader.{Reader, Took, Why, Takes, told_by}
+use Rattle.bit_fields.specs.Reader.{Reader, Took}
 use Rattle.bit_fields.specs.declared.fault.Fault.{Fault}
 use Rattle.bit_fields.proofs.BitLaws.{bits_of-mod, take-bits_of, drop-bits_of}
-use Rattle.bit_fields.proofs.BufferedReads.{took_reads, reads_beyond, caught_up, not_caught_up}
+use Rattle.bit_fields.proofs.BufferedReads.{reads_beyond, reads_forward, reads_took, took_reads}
 use Rattle.bit_fields.proofs.Chunks.{one_chunk}
-use Rattle.bit_fields.proofs.Composing.{fault_then, same_reading, took_nothing, took_then}
+use Rattle.bit_fields.proofs.Composing.{same_reading, took_nothing, took_then}
 use Rattle.bit_fields.proofs.Placing.{fixed_shown}
-use Rattle.bit_abbrev.specs.declared.short_op.ShortOp.{ShortOp}
 use Rattle.bit_abbrev.specs.ShortOps.{word_at, IsShort}
-use Rattle.bit_abbrev.proofs.Buffered.{took_at}
 use Rattle.bit_abbrev.proofs.Operands.{kind_literal, kind_encoded, fixed_took, vbr_took, placed}
+
+-- what is read from bits is taken by a reader that has only these
+pub took_at : {A : Type 0} (rule : Grammar A) (a : BufferedBits) (value : A) (b : BufferedBits) → Reads rule a value b → Took rule (reader_at a) value (reader_at b)
+took_at rule a value b seen = reads_took rule a value b seen (reads_forward rule a value b seen)
 
 -- ---- fields at the beginning of a word
 
@@ -124,14 +125,6 @@ any_char6 AtDefinition element after = refl
 any_char6 AtDefinition later after = refl
 any_char6 AtUse place after = refl
 
--- an even number from 2 to 5
-pub of_width : (word : ℕ) → word % 2 ≢ 1 → 2 ≤ word % 16 → word % 16 < 6 → (word % 16 ≡ 2) ⊎ (word % 16 ≡ 4)
-of_width word even least most =
-    elim (cases_lt (word % 16) 3) [
-      | inl low ↦ inl (omega (arith, even, least, low))
-      | inr high ↦ inr (omega (arith, even, most, high))
-    ]
-
 pub short_fixed : (shapes : Shapes) (place : Place) (after word : ℕ) → word < 256 → word % 16 ≡ 2 → IsShort shapes place after word (record { op = Fixed (word / 16); bits = 9 })
 short_fixed shapes place after word small is =
     let w = width_there word small in
@@ -196,41 +189,3 @@ short_blob shapes place after word is lawful = record {
   lawful = tt;
   reads = plain shapes place after word 5 blob Blob is (λ first p r. refl) (λ a live. took_nothing Blob a live) lawful;
 }
-
--- an operand that is lawful, if it is there
-pub short_if : (shapes : Shapes) (place : Place) (after word : ℕ) (lawful : Bool) (op : Op) (n : ℕ) (result : Option ShortOp) → (lawful ≡ true → IsShort shapes place after word (record { op = op; bits = n })) → IfSome result (λ short. (lawful ≡ true) × (short ≡ record { op = op; bits = n })) → IfSome result (IsShort shapes place after word)
-short_if shapes place after word lawful op n (Some short) so h = subst (IsShort shapes place after word) (sym h.1) (so h.0)
-short_if shapes place after word lawful op n None so h = h
-
--- ---- a reader that takes it
-
-abbrev as_number : List Bool × ℕ × List Bool → Result (ℕ × ℕ × List Bool) grammar.Fault
-as_number s = Ok (number s.0, s.1, s.2)
-
-abbrev as_none : {A : Type 0} → A × ℕ × List Bool → Result ((Unit {0}) × ℕ × List Bool) grammar.Fault
-as_none s = Ok (tt, s.1, s.2)
-
-both : (x : Result (List Bool × ℕ × List Bool) grammar.Fault) → (x and_then as_number) and_then as_none ≡ x and_then as_none
-both (Ok s) = refl
-both (Err fault) = refl
-
--- the bits of a number, whatever they are
-skips : (n p : ℕ) (r : List Bool) → reading (fixed n >>= λ v. gives (tt {0})) p r ≡ reading (any_bits n) p r
-unfolding fixed any_bits
-skips n p r = both (split n (at Truncated p) p r)
-
-skipped : (n : ℕ) (a : Reader) (result : Result ℕ Fault) (b : Reader) → Takes (fixed n) a result b → Takes (any_bits n) a (told_by (λ v. tt {0}) result) b
-skipped n a (Ok v) b t = same_reading (fixed n >>= λ v. gives (tt {0})) (any_bits n) a (Ok tt) b (skips n) (took_then (fixed n) (λ v. gives (tt {0})) a v b (Ok tt) b t (took_nothing (tt {0}) b t.live))
-skipped n a (Err fault) b why = same_reading (fixed n >>= λ v. gives (tt {0})) (any_bits n) a (Err fault) b (skips n) (fault_then (fixed n) (λ v. gives (tt {0})) a fault b why)
-
-pub short_took : (shapes : Shapes) (place : Place) (after word : ℕ) (short : ShortOp) (r : Reader) (value : ℕ) (s : Reader) → Sees r (word_at 9 word r.position) → IsShort shapes place after word short → Took (fixed short.bits) r value s → Took (operand shapes place after) r short.op s
-short_took shapes place after word short r value s sees h t =
-    let a : BufferedBits = word_at 9 word r.position in
-    let count : (beyond a short.bits).position - a.position ≡ short.bits = omega arith in
-    caught_up (operand shapes place after) r a short.op (beyond a short.bits) s sees (h.reads r.position) (subst (λ (n : ℕ). Took (any_bits n) r tt s) (sym count) (skipped short.bits r (Ok value) s t))
-
-pub short_missed : (shapes : Shapes) (place : Place) (after word : ℕ) (short : ShortOp) (r : Reader) (fault : Fault) (s : Reader) → Sees r (word_at 9 word r.position) → IsShort shapes place after word short → Why (fixed short.bits) r fault s → Why (operand shapes place after) r fault s
-short_missed shapes place after word short r fault s sees h why =
-    let a : BufferedBits = word_at 9 word r.position in
-    let count : (beyond a short.bits).position - a.position ≡ short.bits = omega arith in
-    not_caught_up (operand shapes place after) r a short.op (beyond a short.bits) fault s (operand shapes place after) sees (h.reads r.position) (subst (λ (n : ℕ). Why (any_bits n) r fault s) (sym count) (skipped short.bits r (Err fault) s why))

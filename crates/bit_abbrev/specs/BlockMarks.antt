@@ -8,11 +8,13 @@ use Rattle.bit_abbrev.specs.declared.held_op.HeldOp.{HeldOp}
 use Rattle.bit_abbrev.specs.declared.list.Head.{Head}
 use Rattle.bit_abbrev.specs.declared.table.Run.{Run}
 use Rattle.bit_abbrev.specs.declared.table.MadeTable.{MadeTable}
+use Rattle.bit_abbrev.specs.declared.plan.Plan.{Plan}
 use Rattle.bit_abbrev.specs.declared.definitions.Marks.{Marks}
 use Rattle.bit_abbrev.specs.declared.definitions.Definitions.{Definitions}
 use Rattle.bit_abbrev.specs.declared.definitions.InForce.{InForce}
 use Rattle.bit_abbrev.specs.DefinitionLists.{definitions_in, last_of, AreHeld}
 use Rattle.bit_abbrev.specs.InfoTables.{table_in, IsFinished, IsMade}
+use Rattle.bit_abbrev.specs.NotedPlans.{PlansBetween}
 
 -- ---- what the definitions are
 
@@ -62,6 +64,7 @@ pub record IsSound (d : Definitions) : Type 0 where
   pub own : AreHeld d.own.ops.items d.own.heads.items
   pub few_ops : length d.own.ops.items < 2 ^ 32
   pub few_heads : length d.own.heads.items < 2 ^ 32
+  pub few_plans : length d.plans.items < 2 ^ 32
   pub made : IsMade d.made
   pub tables : All IsFinished d.tables.items
   pub few_tables : length d.tables.items < 2 ^ 32
@@ -89,6 +92,13 @@ abbrev pub AreOpen : Definitions → List Marks → Type 0
 AreOpen d [] = Unit {0}
 AreOpen d (m ∷ outer) = IsOpen d m × IsWithin m outer × AreOpen d outer
 
+-- The plans of each block, from its marks on, are those of the definitions in force in it; the innermost block's end at a place.
+abbrev pub ArePlanned : (own : List (List Op)) → List MadeTable → List Plan → (to : ℕ) → List Marks → Type 0
+ArePlanned own tables plans to [] = Unit {0}
+ArePlanned own tables plans to (m ∷ outer) = (m.plans ≤ to)
+    × PlansBetween m.plans to (λ k. get_or (from_table tables m ++ drop m.heads own) (k - m.plans) []) plans
+    × ArePlanned (take m.heads own) tables plans m.plans outer
+
 -- how many tables open blocks use
 abbrev pub used_by : List Marks → ℕ
 used_by [] = 0
@@ -98,6 +108,7 @@ used_by (m ∷ outer) = m.used
 pub record Stands (d : Definitions) (frames : List Marks) : Type 0 where
   pub sound : IsSound d
   pub are_open : AreOpen d frames
+  pub planned : ArePlanned (own_of d) d.tables.items d.plans.items (length d.plans.items) frames
   pub least : used_by frames ≤ length d.tables.items
   pub most : length d.tables.items ≤ used_by frames + 1
 

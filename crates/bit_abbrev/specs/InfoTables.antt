@@ -6,6 +6,7 @@ use Rattle.bit_abbrev.specs.declared.table.Group.{Group}
 use Rattle.bit_abbrev.specs.declared.table.Run.{Run}
 use Rattle.bit_abbrev.specs.declared.table.MadeTable.{MadeTable}
 use Rattle.bit_abbrev.specs.DefinitionLists.{definitions_in, AreHeld}
+use Rattle.bit_abbrev.specs.NotedPlans.{ArePlans}
 
 -- what the groups for a block id have, in order
 abbrev pub runs_for : {X : Type 0} → (all : List X) → List Group → ℕ → List X
@@ -52,6 +53,7 @@ RiseFrom least (group ∷ groups) = (least ≤ group.id) × RiseFrom (group.id +
 -- a table that is being made
 pub record IsMade (table : MadeTable) : Type 0 where
   pub held : AreHeld table.list.ops.items table.list.heads.items
+  pub none : table.plans.items ≡ []
   pub follow : Follow 0 (length table.list.heads.items) table.groups.items
   pub few_ops : length table.list.ops.items < 2 ^ 32
   pub few_heads : length table.list.heads.items < 2 ^ 32
@@ -61,6 +63,7 @@ pub record IsFinished (table : MadeTable) : Type 0 where
   pub held : AreHeld table.list.ops.items table.list.heads.items
   pub runs : AreRuns (length table.list.heads.items) table.groups.items
   pub rise : RiseFrom 0 table.groups.items
+  pub planned : ArePlans (λ k. get_or (definitions_in table.list.ops.items table.list.heads.items) k []) table.plans.items
 
 -- the definitions for a block id are this run
 pub record IsRunFor (table : MadeTable) (id : ℕ) (run : Run) : Type 0 where

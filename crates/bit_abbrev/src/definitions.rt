@@ -1,20 +1,30 @@
 //! The definitions of the open blocks and of BLOCKINFO blocks.
 
-ghost use Rattle.std.specs.Prelude.{◌≡◌, ◌+◌, ◌-◌, ◌<◌, ◌≤◌, ◌∷◌, ℕ, List, [], Some, length, get_or, slice_get, IfSome, IfNone, OnOk, OnErr};
+ghost use Rattle.std.specs.Prelude.{◌≡◌, ◌+◌, ◌-◌, ◌<◌, ◌≤◌, ◌∷◌, ℕ, List, [], true, Some, length, get_or, slice_get, IfSome, IfNone, OnOk, OnErr};
 ghost use Rattle.std.specs.Option.{option_map};
+ghost use Rattle.bit_grammar.specs.FormatDefinition.{Definable};
 ghost use Rattle.bit_abbrev.specs.HeldPlaces.{ops_of};
 ghost use Rattle.bit_abbrev.specs.PlaceLayouts.{HasLayout};
-ghost use Rattle.bit_abbrev.specs.DefinitionLists.{last_of, IsEven};
+ghost use Rattle.bit_abbrev.specs.DefinitionLists.{IsEven};
 ghost use Rattle.bit_abbrev.specs.InfoTables.{table_in};
+ghost use Rattle.bit_abbrev.specs.Plans.{IsPlan};
+ghost use Rattle.bit_abbrev.specs.NotedPlans.{ArePlans};
+ghost use Rattle.bit_abbrev.specs.BlockPlans.{all_of_block, KeepsBlock, NotesIn, StandsFor};
 ghost use Rattle.bit_abbrev.specs.declared.definitions.Marks.{Marks};
 ghost use Rattle.bit_abbrev.specs.declared.table.MadeTable.{MadeTable};
 ghost use Rattle.bit_abbrev.specs.BlockMarks.{all_in, blocks_of, in_force, list_at, newest_of, shared_in, AreInForce, HasRunOf, IsHeadAt, IsOpen, IsSound, Kept, MarksOf, Put, Shares, Stands};
 
 use crate::held_op::{HeldOp, HeldOps};
+use crate::layout::Layout;
 use crate::list::{DefinitionList, Head, held_at, places_at};
+use crate::plan::Plan;
+use crate::plans::note_plan;
 use crate::table::{MadeTable, Run};
 use std::alloc::{AllocError, Global};
 use std::mem::{replace, swap};
+
+/// How many definitions of a table, or of a block that makes its own, have plans at most.
+const MOST_PLANS: usize = 256;
 
 /// Where the definitions of an open block are: a run of those of the last table that it uses, and those of the block behind marks in the
 /// list that the open blocks share.
@@ -24,6 +34,7 @@ pub struct Marks {
     count: u32,
     heads: u32,
     ops: u32,
+    plans: u32,
     /// How many tables the open blocks use, without this block and with it.
     before: u32,
     used: u32,
@@ -39,6 +50,7 @@ impl Marks {
             count: 0,
             heads: 0,
             ops: 0,
+            plans: 0,
             before: 0,
             used: 0,
         }
@@ -60,6 +72,8 @@ fn used_with(run: Run, tables: u32, without: u32) -> u32
 pub struct Definitions {
     alloc: Global,
     pub(crate) own: DefinitionList,
+    /// Plans of the definitions in force in the open blocks that made some themselves, one block behind the other.
+    pub(crate) plans: Vec<Plan>,
     pub(crate) made: MadeTable,
     tables: Vec<MadeTable>,
 }
@@ -74,6 +88,7 @@ impl Definitions {
         Definitions {
             alloc,
             own: DefinitionList::new(alloc),
+            plans: Vec::new(alloc),
             made: MadeTable::new(alloc),
             tables: Vec::new(alloc),
         }
@@ -104,12 +119,14 @@ impl Definitions {
         let run = self.run_of(id);
         let heads = self.own.heads.len() as u32;
         let ops = self.own.ops.len() as u32;
+        let plans = self.plans.len() as u32;
         let used = used_with(run, table, outer.used);
         Marks {
             start: run.start,
             count: run.count,
             heads,
             ops,
+            plans,
             before: outer.used,
             used,
         }
@@ -126,6 +143,7 @@ impl Definitions {
         ensures made { self.new.made ≡ self.old.made }
     {
         self.own.truncate(marks.heads as usize, marks.ops as usize);
+        self.plans.truncate(marks.plans as usize);
         keep_used(&mut self.tables, marks.before);
     }
 
@@ -150,6 +168,7 @@ impl Definitions {
         ensures ok { OnOk result (Shares self.old.made self.old.tables.items self.new.tables.items outer.used) }
         ensures err { OnErr result (self.new.tables.items ≡ self.old.tables.items) }
         ensures own { self.new.own ≡ self.old.own }
+        ensures plans { self.new.plans ≡ self.old.plans }
     {
         self.made.put_in_order(self.alloc)?;
         if outer.used == u32::MAX {
@@ -167,12 +186,43 @@ impl Definitions {
     #[inline(always)]
     pub fn newest(&self, described: bool) -> Option<HeldOps<'_>>
         requires { IsSound self.now }
-        ensures { option_map (λ held. ops_of held.places.now) result ≡ newest_of self.now described }
+        ensures newest { option_map (λ held. ops_of held.places.now) result ≡ newest_of self.now described }
+        ensures definable { IfSome result (λ held. Definable (ops_of held.places.now)) }
     {
         if described {
             return self.made.list.last();
         }
         self.own.last()
+    }
+
+    /// Notes a plan among those of the innermost block, which has these marks and made definitions itself.
+    fn note_own(&mut self, marks: Marks, index: usize, plan: Plan) -> Result<(), AllocError>
+        requires few { index < 256 }
+        requires plan { IsPlan (get_or (in_force self.old marks) index []) plan }
+        ensures { KeepsBlock marks self.old self.new }
+    {
+        let place = marks.plans as usize + index;
+        if place >= u32::MAX as usize {
+            return Err(AllocError);
+        }
+        note_plan(&mut self.plans, place, plan)
+    }
+
+    /// Notes a plan among those of the table that the innermost block uses, which has these marks and made no definitions.
+    fn note_shared(&mut self, marks: Marks, index: usize, plan: Plan) -> Result<(), AllocError>
+        requires open { IsOpen self.old marks }
+        requires few { index < 256 }
+        requires within { index < length (in_force self.old marks) }
+        requires none { length self.old.own.heads.items ≡ marks.heads }
+        requires plan { IsPlan (get_or (in_force self.old marks) index []) plan }
+        ensures { KeepsBlock marks self.old self.new }
+    {
+        note_in(
+            &mut self.tables,
+            marks.used as usize - 1,
+            marks.start as usize + index,
+            plan,
+        )
     }
 
     /// Those in force in the innermost block.
@@ -249,6 +299,7 @@ impl<'a> InForce<'a> {
         requires known { head.now.len ≡ 65535 → IsEven head.now.layout }
         ensures ops { slice_get (all_in self.now) index ≡ Some (ops_of result.now) }
         ensures laid { HasLayout result.now head.now.layout }
+        ensures definable { Definable (ops_of result.now) }
     {
         places_at(self.list(index), head)
     }
@@ -261,6 +312,20 @@ impl<'a> InForce<'a> {
         ensures { slice_get (all_in self.now) index ≡ Some (ops_of result.places.now) }
     {
         held_at(self.list(index), head)
+    }
+
+    /// The plan of the definition at an index, which has this head. A definition that no record may use has none, nor has one of which the
+    /// head does not tell the length.
+    fn plan_of(&self, index: usize, head: &Head) -> Option<Plan>
+        requires sound { AreInForce self.now }
+        requires at { IsHeadAt self.now index head.now }
+        ensures within { IfSome result (λ plan. index < length (all_in self.now)) }
+        ensures plan { IfSome result (λ plan. IsPlan (get_or (all_in self.now) index []) plan) }
+    {
+        if head.is_long() || matches!(head.layout, Layout::Unlawful) {
+            return None;
+        }
+        Some(Plan::of(self.ops(index, head)))
     }
 }
 
@@ -303,4 +368,146 @@ fn put_last(
     }
     tables.push(replace(made, MadeTable::new(alloc)))?;
     Ok(())
+}
+
+/// Notes a plan among those of a table.
+fn note_in(
+    tables: &mut Vec<MadeTable>,
+    at: usize,
+    place: usize,
+    plan: Plan,
+) -> Result<(), AllocError>
+    requires { at < length tables.old.items }
+    ensures { NotesIn at place plan tables.old.items tables.new.items }
+{
+    note_plan(&mut tables[at].plans, place, plan)
+}
+
+/// The definitions in force in the innermost block, and their plans.
+#[derive(Drop)]
+pub struct BlockDefinitions<'a> {
+    definitions: &'a mut Definitions,
+    marks: Marks,
+}
+
+impl<'a> BlockDefinitions<'a> {
+    /// Those of the innermost block, which has these marks.
+    #[inline(always)]
+    pub fn of(definitions: &'a mut Definitions, marks: Marks) -> BlockDefinitions<'a>
+        ensures same_reference { result.definitions.ghost_name ≡ definitions.entry.ghost_name }
+        ensures now { result.definitions.now ≡ definitions.old }
+        ensures marks { result.marks ≡ marks }
+    {
+        BlockDefinitions { definitions, marks }
+    }
+
+    /// All of them.
+    #[inline(always)]
+    pub fn in_force(&self) -> InForce<'_>
+        requires { StandsFor self.now }
+        ensures sound { AreInForce result }
+        ensures all { all_in result ≡ all_of_block self.now }
+    {
+        self.definitions.in_force(self.marks)
+    }
+
+    /// Whether the block made none of its own. Then its plans are those of the table.
+    #[inline(always)]
+    fn is_shared(&self) -> bool
+        ensures { result ≡ true → length self.now.definitions.now.own.heads.items ≡ self.now.marks.heads }
+    {
+        self.definitions.own.heads.len() == self.marks.heads as usize
+    }
+
+    /// The plans of those of the table.
+    #[inline(always)]
+    fn shared_plans(&self) -> &[Plan]
+        requires stands { StandsFor self.now }
+        requires none { length self.now.definitions.now.own.heads.items ≡ self.now.marks.heads }
+        ensures { ArePlans (λ k. get_or (all_of_block self.now) k []) result.now }
+    {
+        let marks = self.marks;
+        if marks.count == 0 {
+            return &[];
+        }
+        let plans = self.definitions.tables[marks.used as usize - 1]
+            .plans
+            .as_slice();
+        let start = (marks.start as usize).min(plans.len());
+        let end = (marks.start as usize + marks.count as usize).min(plans.len());
+        &plans[start..end]
+    }
+
+    /// The plans that were made, in the order of the definitions.
+    #[inline(always)]
+    pub fn plans(&self) -> &[Plan]
+        requires { StandsFor self.now }
+        ensures { ArePlans (λ k. get_or (all_of_block self.now) k []) result.now }
+    {
+        if self.is_shared() {
+            return self.shared_plans();
+        }
+        &self.definitions.plans[self.marks.plans as usize..]
+    }
+
+    /// How many of the first definitions have plans at most.
+    #[inline(always)]
+    fn most_plans(&self) -> usize
+        ensures { result ≤ 256 }
+    {
+        if self.is_shared() {
+            return MOST_PLANS.saturating_sub(self.marks.start as usize);
+        }
+        MOST_PLANS
+    }
+
+    /// The plan of the definition at an index, if it may have one and has none yet.
+    fn new_plan(&self, index: usize) -> Option<Plan>
+        requires { StandsFor self.now }
+        ensures few { IfSome result (λ plan. index < 256) }
+        ensures within { IfSome result (λ plan. index < length (all_of_block self.now)) }
+        ensures plan { IfSome result (λ plan. IsPlan (get_or (all_of_block self.now) index []) plan) }
+    {
+        if index >= self.most_plans() {
+            return None;
+        }
+        if let Some(plan) = self.plans().get(index) {
+            if !plan.is_unmade() {
+                return None;
+            }
+        }
+        let all = self.in_force();
+        all.plan_of(index, all.head(index)?)
+    }
+
+    /// Makes the plan of the definition at an index, and returns whether it passes over records and was not there.
+    #[inline(never)]
+    pub fn plan(&mut self, index: usize) -> Result<bool, AllocError>
+        requires { StandsFor self.old }
+        ensures same_reference { self.new.definitions.ghost_name ≡ self.old.definitions.ghost_name }
+        ensures marks { self.new.marks ≡ self.old.marks }
+        ensures keeps { KeepsBlock self.old.marks self.old.definitions.now self.new.definitions.now }
+    {
+        let Some(plan) = self.new_plan(index) else {
+            return Ok(false);
+        };
+        self.note(index, plan)?;
+        Ok(!plan.is_odd())
+    }
+
+    /// Notes the plan of the definition at an index.
+    fn note(&mut self, index: usize, plan: Plan) -> Result<(), AllocError>
+        requires stands { StandsFor self.old }
+        requires few { index < 256 }
+        requires within { index < length (all_of_block self.old) }
+        requires plan { IsPlan (get_or (all_of_block self.old) index []) plan }
+        ensures same_reference { self.new.definitions.ghost_name ≡ self.old.definitions.ghost_name }
+        ensures marks { self.new.marks ≡ self.old.marks }
+        ensures keeps { KeepsBlock self.old.marks self.old.definitions.now self.new.definitions.now }
+    {
+        if self.is_shared() {
+            return self.definitions.note_shared(self.marks, index, plan);
+        }
+        self.definitions.note_own(self.marks, index, plan)
+    }
 }

@@ -1,7 +1,8 @@
 //! Definitions, one after another in a list.
 
-ghost use Rattle.std.specs.Prelude.{◌≡◌, ◌≤◌, ◌<◌, ◌-◌, ◌^◌, ◌++◌, [], List, true, false, length, take, IfErr, IfOk, OnOk, OnErr};
+ghost use Rattle.std.specs.Prelude.{◌≡◌, ◌≢◌, ◌≤◌, ◌<◌, ◌-◌, ◌++◌, [], List, true, false, length, take, IfSome, OnOk, OnErr};
 ghost use Rattle.std.specs.Option.{option_map};
+ghost use Rattle.bit_grammar.specs.FormatDefinition.{Definable};
 ghost use Rattle.bit_grammar.specs.declared.op.Op.{Op};
 ghost use Rattle.bit_abbrev.specs.declared.held_op.HeldOp.{HeldOp};
 ghost use Rattle.bit_abbrev.specs.HeldPlaces.{ops_of, Extends};
@@ -30,6 +31,14 @@ impl Head {
         ensures odd { result ≡ false → IsEven self.now.layout → ⊥ }
     {
         matches!(self.layout, Layout::Singles | Layout::Coded | Layout::List)
+    }
+
+    /// Whether an end tells the length of the definition.
+    #[inline(always)]
+    pub(crate) fn is_long(&self) -> bool
+        ensures { result ≡ false → self.now.len ≢ 65535 }
+    {
+        self.len as usize == LONG
     }
 }
 
@@ -137,8 +146,9 @@ impl DefinitionList {
     #[inline(always)]
     pub(crate) fn last(&self) -> Option<HeldOps<'_>>
         requires { AreHeld self.now.ops.items self.now.heads.items }
-        ensures { option_map (λ held. ops_of held.places.now) result
+        ensures last { option_map (λ held. ops_of held.places.now) result
             ≡ last_of (definitions_in self.now.ops.items self.now.heads.items) }
+        ensures definable { IfSome result (λ held. Definable (ops_of held.places.now)) }
     {
         let head = self.heads.last()?;
         Some(held_at(self.ops.as_slice(), head))

@@ -1,6 +1,6 @@
 //! The definitions that a BLOCKINFO block makes.
 
-ghost use Rattle.std.specs.Prelude.{◌≡◌, ◌≢◌, ◌<◌, ◌≤◌, ◌+◌, ◌-◌, ◌^◌, ℕ, List, [], false, length, get_or, slice_get, vec_len, vec_capacity, IfOk, OnOk, OnErr};
+ghost use Rattle.std.specs.Prelude.{◌≡◌, ◌≢◌, ◌<◌, ◌+◌, ◌-◌, ◌^◌, ℕ, List, [], false, length, get_or, slice_get, vec_len, vec_capacity, OnOk};
 ghost use Rattle.std.specs.Option.{option_copied};
 ghost use Rattle.std.specs.List.Sorted.{IsNonDecreasingBy};
 ghost use Rattle.bit_abbrev.specs.declared.held_op.HeldOp.{HeldOp};
@@ -9,6 +9,7 @@ ghost use Rattle.bit_abbrev.specs.DefinitionLists.{AreHeld};
 ghost use Rattle.bit_abbrev.specs.InfoTables.{ends_with, noted, runs_for, table_in, AreRuns, IsFinished, IsMade, IsPlace, IsRunFor, RiseFrom};
 
 use crate::list::{DefinitionList, Head};
+use crate::plan::Plan;
 use std::alloc::{AllocError, Global};
 
 /// How many operands a list has room for at most that is used again.
@@ -120,6 +121,8 @@ fn unite_into(
 #[derive(Drop)]
 pub(crate) struct MadeTable {
     pub(crate) list: DefinitionList,
+    /// None while the table is made; then those of the first definitions.
+    pub(crate) plans: Vec<Plan>,
     /// While the table is made, in the order of the definitions; then in the order of block ids, and one for each.
     pub(crate) groups: Vec<Group>,
 }
@@ -129,10 +132,12 @@ impl MadeTable {
     pub(crate) fn new(alloc: Global) -> MadeTable
         ensures ops { result.list.ops.items ≡ [] }
         ensures heads { result.list.heads.items ≡ [] }
+        ensures plans { result.plans.items ≡ [] }
         ensures groups { result.groups.items ≡ [] }
     {
         MadeTable {
             list: DefinitionList::new(alloc),
+            plans: Vec::new(alloc),
             groups: Vec::new(alloc),
         }
     }
@@ -146,6 +151,7 @@ impl MadeTable {
         ensures groups { self.new.groups.items ≡ noted self.old.groups.items id
             (length self.old.list.heads.items - 1) (length self.old.list.heads.items) }
         ensures list { self.new.list ≡ self.old.list }
+        ensures plans { self.new.plans ≡ self.old.plans }
     {
         let end = self.list.heads.len() as u32;
         note_run(&mut self.groups, id, end - 1, end);
@@ -169,6 +175,7 @@ impl MadeTable {
     #[inline(never)]
     fn unite(&mut self, alloc: Global) -> Result<(), AllocError>
         requires held { AreHeld self.old.list.ops.items self.old.list.heads.items }
+        requires none { self.old.plans.items ≡ [] }
         requires runs { AreRuns (length self.old.list.heads.items) self.old.groups.items }
         requires order { IsNonDecreasingBy (λ group. group.id) self.old.groups.items }
         ensures order { OnOk result (IsFinished self.new) }
@@ -206,6 +213,7 @@ impl MadeTable {
     pub(crate) fn clear(&mut self, alloc: Global)
         ensures ops { self.new.list.ops.items ≡ [] }
         ensures heads { self.new.list.heads.items ≡ [] }
+        ensures plans { self.new.plans.items ≡ [] }
         ensures groups { self.new.groups.items ≡ [] }
     {
         if self.list.ops.capacity() > KEPT {
@@ -213,6 +221,7 @@ impl MadeTable {
             return;
         }
         self.list.truncate(0, 0);
+        self.plans.truncate(0);
         self.groups.truncate(0);
     }
 }

@@ -6,6 +6,7 @@ use Rattle.std.proofs.lemmas.Result.{on_ok_weaker}
 use Rattle.bit_abbrev.specs.declared.table.Group.{Group}
 use Rattle.bit_abbrev.specs.DefinitionLists.{definitions_in}
 use Rattle.bit_abbrev.proofs.InfoTables.{apart_rise, are_runs, same_runs}
+use Rattle.bit_abbrev.proofs.NotedPlans.{none_plans}
 use Rattle.bit_abbrev.proofs.Sorting.{sorted_at}
 use Rattle.bit_abbrev.proofs.table.MadeTable.put_in_order.Goals as goal
 
@@ -34,6 +35,7 @@ returns-clause-order c =
       held = c.requires.held;
       runs = All-permutation (λ (g : Group). (g.start ≤ g.end) × (g.end ≤ length self.list.heads.items)) self.groups.items sorted c.sort_by_key.ensures.permutation (are_runs 0 (length self.list.heads.items) self.groups.items c.requires.follow);
       rise = apart_rise 0 sorted (λ d lt. omega arith) order apart;
+      planned = none_plans _ self.plans.items c.requires.none;
     }
 
 pub returns-clause-same : goal.returns-clause-same

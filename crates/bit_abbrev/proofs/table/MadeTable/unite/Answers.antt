@@ -4,6 +4,7 @@ use Rattle.bit_abbrev.specs.declared.table.Group.{Group}
 use Rattle.bit_abbrev.specs.DefinitionLists.{AreHeld}
 use Rattle.bit_abbrev.specs.InfoTables.{runs_for}
 use Rattle.bit_abbrev.proofs.InfoTables.{same_table}
+use Rattle.bit_abbrev.proofs.NotedPlans.{none_plans}
 use Rattle.bit_abbrev.proofs.table.MadeTable.unite.Goals as goal
 
 pub returns-clause-order : goal.returns-clause-order
@@ -14,6 +15,7 @@ returns-clause-order c =
       held = united.held list.ops.items (subst (AreHeld list.ops.items) (sym c.as_slice.ensures.value) c.requires.held);
       runs = united.runs;
       rise = united.rise;
+      planned = none_plans _ c.args.self.now.plans.items c.requires.none;
     }
 
 pub returns-clause-same : goal.returns-clause-same
