@@ -35,11 +35,33 @@ pub struct Abbrev {
     usable: bool,
 }
 
+/// What follows the operands that stand for one value each.
+#[derive(Clone, Copy, Debug)]
+enum Tail {
+    Nothing,
+    Blob,
+    Array,
+}
+
+/// What follows them in these operands.
+fn tail_of(ops: &[Op]) -> Tail
+{
+    let len = ops.len();
+    if len > 2 && matches!(ops[len - 2], Op::Array) {
+        return Tail::Array;
+    }
+    if len > 1 && matches!(ops[len - 1], Op::Blob) {
+        return Tail::Blob;
+    }
+    Tail::Nothing
+}
+
 impl fmt::Debug for Abbrev {
     fn fmt<W: fmt::Write>(&self, f: &mut fmt::Formatter<W>) -> fmt::Result {
         f.debug_struct("Abbrev")
             .field("ops", &self.ops)
             .field("usable", &self.usable)
+            .field("tail", &tail_of(self.ops.as_slice()))
             .finish()
     }
 }
