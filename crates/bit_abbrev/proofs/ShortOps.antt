@@ -21,7 +21,6 @@ use Rattle.bit_grammar.proofs.Bits.Numbers.{length-bits_of}
 use Rattle.bit_fields.specs.Buffered.{BufferedBits, Reads, beyond, reader_at}
 use Rattle.bit_fields.specs.Inside.{part_of}
 use Rattle.bit_fields.specs.Reader.{Reader, Took}
-use Rattle.bit_fields.specs.declared.fault.Fault.{Fault}
 use Rattle.bit_fields.proofs.BitLaws.{bits_of-mod, take-bits_of, drop-bits_of}
 use Rattle.bit_fields.proofs.BufferedReads.{reads_beyond, reads_forward, reads_took, took_reads}
 use Rattle.bit_fields.proofs.Chunks.{one_chunk}
