@@ -1,4 +1,3 @@
+use Rattle.std.proofs.lemmas.Result.{err_from_is_err_and}
+use Rattle.bit_abbrev.proofs.RecordReading.{plain_entry, defined_entry, lawful_entry, undefined_refused, unlawful_refused, gains_same, found_held, found_ops}
 use Rattle.bit_abbrev.proofs.record.read_record.Goals as goal
-
-pub returns-clause-adds : goal.returns-clause-adds
-returns-clause-adds g c = rw c.lawful_ops-ops.ensures.items at c.read_by_ops.ensures.adds

@@ -5,6 +5,6 @@ use Rattle.bit_abbrev.proofs.record.read_scalar.Goals as goal
 
 pub returns-in-Fixed-eq0-clause-takes : goal.returns-in-Fixed-eq0-clause-takes
 unfolding scalar
-returns-in-Fixed-eq0-clause-takes g c =
+returns-in-Fixed-eq0-clause-takes c =
     let none : c.in-Fixed-eq0.field-0 ≡ 0 = cc in
-    rw (c.in-Fixed-eq0.is, none) (took_zero (g.B.Bits.as_reader c.args.bits.now) c.requires.live)
+    rw (c.in-Fixed-eq0.is, none) (took_zero c.args.reader.now c.requires.live)
