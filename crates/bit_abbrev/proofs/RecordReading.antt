@@ -1,6 +1,6 @@
 -- Reading a record by the reader, operand by operand.
-use Rattle.std.proofs.Common.{◌≡◌, true, false, ℕ, zero, suc, ◌+◌, ◌-◌, ◌<◌, ◌≤◌, ◌==◌, ◌⊎◌, inl, inr, List, [], ◌∷◌, ◌++◌, length, Bool, Option, None, Some, Result, Ok, Err, refl, sym, ap, ◌∙◌, subst, arith, length-append, get_or, slice_get}
-use Rattle.std.specs.Prelude.{◌≢◌, IfNone, IfSome, nat_lt}
+use Rattle.std.proofs.Common.{◌≡◌, true, false, ℕ, zero, suc, ◌+◌, ◌-◌, ◌<◌, ◌≤◌, ◌==◌, ◌&&◌, ◌⊎◌, inl, inr, List, [], ◌∷◌, ◌++◌, length, Bool, Option, None, Some, Result, Ok, Err, refl, sym, ap, ◌∙◌, subst, arith, length-append, get_or, slice_get}
+use Rattle.std.specs.Prelude.{◌≢◌, IfErr, IfNone, IfSome, nat_le, nat_lt}
 use Rattle.std.specs.List.{AllByRecursion}
 use Rattle.std.specs.Result.{OnOk}
 use Rattle.std.proofs.lemmas.Bool.{false≢true, lt-ltb, le-ltb, ne_eqb, eq-eqb}
@@ -9,9 +9,9 @@ use Rattle.std.proofs.lemmas.Option.{get_or_from_slice_get, slice_get_within}
 use Rattle.bit_grammar.specs.declared.op.Op.{Op}
 use Rattle.bit_grammar.specs.declared.op.Op.TheVariants.{Literal, Fixed, Vbr, Array, Char6, Blob}
 use Rattle.bit_grammar.specs.declared.op.Place.TheVariants.{Element, Later}
-use Rattle.bit_grammar.specs.declared.reason.Reason.TheVariants.{AbbrevShape, UndefinedAbbrev}
+use Rattle.bit_grammar.specs.declared.reason.Reason.TheVariants.{AbbrevShape, TooManyValues, UndefinedAbbrev}
 use Rattle.bit_grammar.specs.Blocks.{by_definition, entry}
-use Rattle.bit_grammar.specs.Grammar.{Grammar, ◌>>◌, at, choose, gives, refuses, repeat, test, reading}
+use Rattle.bit_grammar.specs.Grammar.{Grammar, ◌>>=◌, ◌>>◌, at, choose, gives, refuses, repeat, test, reading}
 use Rattle.bit_grammar.specs.Definition.{has_shape, in_order}
 use Rattle.bit_grammar.specs.FormatDefinition.{IsElement, HasLawfulValue, Definable}
 use Rattle.bit_grammar.specs.Fields.{align32, vbr}
@@ -23,7 +23,7 @@ use Rattle.bit_fields.specs.Buffered.{BufferedBits, OnlyLooks, Reads, ShowsBits,
 use Rattle.bit_fields.specs.Devices.{Spends}
 use Rattle.bit_fields.specs.Reader.{Reader, Took, Takes, Why, failed_reader}
 use Rattle.bit_fields.proofs.BufferedReads.{shown_took}
-use Rattle.bit_fields.proofs.Composing.{fault_then, holds_then, same_reading}
+use Rattle.bit_fields.proofs.Composing.{fault_then, same_reading, took_then}
 use Rattle.bit_fields.proofs.InflowLaws.{looked_spends}
 use Rattle.bit_abbrev.specs.declared.held_op.HeldOp.{HeldOp}
 use Rattle.bit_abbrev.specs.declared.held_op.HeldOp.TheVariants as held
@@ -34,19 +34,30 @@ use Rattle.bit_abbrev.specs.declared.definitions.InForce.{InForce}
 use Rattle.bit_abbrev.specs.BlockMarks.{all_in, AreInForce, IsHeadAt}
 use Rattle.bit_abbrev.specs.HeldPlaces.{ops_of}
 use Rattle.bit_abbrev.specs.PlaceLayouts.{HasLayout, IsSinglePlace}
-use Rattle.bit_abbrev.specs.Operands.{last_ops}
+use Rattle.bit_abbrev.specs.Operands.{coded_fields, last_ops}
 use Rattle.bit_abbrev.specs.Taking.{GivesMany, op_held}
 use Rattle.bit_abbrev.specs.Values.{Adds, AddsAll, AddsFew, AddsRecord, AddsWithin, Completes, Gains, Has, Lengthens}
-use Rattle.bit_abbrev.proofs.Adding.{memory_after, no_room, whole, zeros_are}
+use Rattle.bit_abbrev.proofs.Adding.{and_gives, memory_after, whole, zeros_are}
 use Rattle.bit_abbrev.proofs.BlockMarks.{found_at}
-use Rattle.bit_abbrev.proofs.Records.{array_counted, array_read, blob_counted, blob_padded, blob_fails, blob_read, blob_few, no_values, one_more, single_then, single_fails}
-use Rattle.bit_abbrev.proofs.Taking.{SoFar, far_refused}
+use Rattle.bit_abbrev.proofs.Records.{array_counted, array_read, blob_counted, blob_padded, blob_fails, blob_read, blob_few, no_values, one_more, record_crowded, single_then, single_fails}
+use Rattle.bit_abbrev.proofs.AddedValues.{SoFar, far_refused}
 
 -- ---- values one after another
 
 -- an allocation fails for a value that was read
 pub far_full : {V : Type 0} (took : V → List ℕ → Type 0) (v w : V) (rule : Grammar ℕ) (count : ℕ) (a : Reader) (before : List ℕ) (done : ℕ) (b : Reader) (value : ℕ) (c : Reader) (fault : Fault) (d : Reader) → Has took v (SoFar rule count a done b before) → Took rule b value c → ((values : List ℕ) → took v values → took w values) → (fault ≡ Memory) × (d ≡ failed_reader c) → Has took w (AddsAll rule count a (Err fault) d before)
 far_full took v w rule count a before done b value c fault d h t same full = rw (full.0, full.1) (far_refused took v w rule count a before done b value c h t same)
+
+-- a value that was read was kept
+pub value_kept : {V : Type 0} (took : V → List ℕ → Type 0) (v w : V) (rule : Grammar ℕ) (a : Reader) (value : ℕ) (b : Reader) (result : Result (Unit {0}) Fault) (c : Reader) → Took rule a value b → OnOk result ((c ≡ b) × ((before : List ℕ) → took v before → took w (before ++ value ∷ [])))
+    → OnOk result ((x : ℕ) × Took rule a x c × ((before : List ℕ) → took v before → took w (before ++ x ∷ [])))
+value_kept took v w rule a value b (Ok x) c t kept = (value, subst (Took rule a value) (sym kept.0) t, kept.1)
+value_kept took v w rule a value b (Err fault) c t kept = tt
+
+-- or there was no memory for it
+pub value_not_kept : (rule : Grammar ℕ) (a : Reader) (value : ℕ) (b : Reader) (result : Result (Unit {0}) Fault) (c : Reader) → Took rule a value b → IfErr result (λ fault. (fault ≡ Memory) × (c ≡ failed_reader b)) → IfErr result (λ fault. Why rule a fault c)
+value_not_kept rule a value b (Ok x) c t full = tt
+value_not_kept rule a value b (Err fault) c t full = rw (full.0, full.1) (memory_after rule rule a value b t)
 
 -- ---- fields that are there
 
@@ -179,7 +190,7 @@ list_last op others None (inr blob) order behind lawful = rw (blob, behind.1) (r
 list_last op others (Some element) (inr blob) order behind lawful = absurd (none element behind.0.0 (subst (λ (ops : List Op). in_order Later (Blob ∷ ops) ≡ true) behind.0.1 (subst (λ (o : Op). in_order Later (o ∷ others) ≡ true) blob order)))
   where
     none : (element : Op) (rest : List Op) → in_order Later (Blob ∷ element ∷ rest) ≡ true → ⊥
-    none element rest order = false≢true order
+    none element rest order = false≢true (sym (ap (λ (b : Bool). b && in_order Later (element ∷ rest)) (ne_eqb (suc (length rest)) 0 (λ e. omega (arith, e)))) ∙ order)
 list_last op others None (inl array) order behind lawful = absurd (false≢true (subst (λ (ops : List Op). in_order Later (Array ∷ ops) ≡ true) behind.1 (subst (λ (o : Op). in_order Later (o ∷ others) ≡ true) array order)))
 list_last op others (Some element) (inl array) order behind lawful =
     let all = subst (λ (ops : List Op). in_order Later (Array ∷ ops) ≡ true) behind.0.1 (subst (λ (o : Op). in_order Later (o ∷ others) ≡ true) array order) in
@@ -197,7 +208,12 @@ list_last op others (Some element) (inl array) order behind lawful =
 
     one_element : (element : Op) (rest : List Op) → in_order Later (Array ∷ element ∷ rest) ≡ true → (rest ≡ []) × IsElement element
     one_element element [] order = (refl, element_is element order)
-    one_element element (other ∷ rest) order = absurd (false≢true order)
+    one_element element (other ∷ rest) order = absurd (false≢true (sym (ap (λ (b : Bool). b && in_order Element (element ∷ other ∷ rest)) (ne_eqb (suc (suc (length rest))) 1 (λ e. omega (arith, e)))) ∙ order))
+
+-- the same for two operands that are one: the compiler copies what is behind the first one
+pub list_last_of : {O : Type 0} (ops_in : O → List Op) (op : Op) (rest copied : O) (found : Option Op) → FoundBehind (ops_in copied) found → copied ≡ rest → (op ≡ Array) ⊎ (op ≡ Blob) → in_order Later (op ∷ ops_in rest) ≡ true → AllByRecursion HasLawfulValue (ops_in rest)
+    → (op ∷ ops_in rest ≡ last_ops found) × IfSome found (λ element. IsElement element × HasLawfulValue element)
+list_last_of {O} ops_in op rest copied found behind same is order lawful = list_last op (ops_in rest) found is order (subst (λ (x : O). FoundBehind (ops_in x) found) same behind) lawful
 
 -- ---- the values behind the code
 
@@ -225,8 +241,16 @@ behind_goes_on room all left others op a b before now value c m n is h t = recor
 pub behind_fails : (room : ℕ) (all left others : List Op) (op : Op) (a b : Reader) (before now : List ℕ) (fault : Fault) (c : Reader) → (op ≡ Array → ⊥) → (op ≡ Blob → ⊥) → left ≡ op ∷ others → FarBehind room all left a b before now → Why (scalar op) b fault c → Adds (values_of room all) a (Err fault) before now c
 behind_fails room all left others op a b before now fault c m n is h why = (left_first room all left others op a b before now is h).so (Err fault) now c (single_fails room op others b fault now c m n why)
 
-pub behind_refused : (room : ℕ) (all left : List Op) (op : Op) (a b : Reader) (before now : List ℕ) (value : ℕ) (c : Reader) → FarBehind room all left a b before now → Took (scalar op) b value c → Adds (values_of room all) a (Err Memory) before now (failed_reader c)
-behind_refused room all left op a b before now value c h t = h.completes.so (Err Memory) now (failed_reader c) (no_room (scalar op) (values_of room left) b value c now t)
+-- what holds before each of the operands, of which these are left
+pub record BehindCode {V : Type 0} (took : V → List ℕ → Type 0) (v w : V) (room : ℕ) (all left : List Op) (a b : Reader) : Type 0 where
+  pub live : b.live ≡ true
+  pub order : in_order Later left ≡ true
+  pub lawful : AllByRecursion HasLawfulValue left
+  pub far : Gains took v w (FarBehind room all left a b)
+
+-- the compiler copies those that are left
+pub behind_kept : {V O : Type 0} (took : V → List ℕ → Type 0) (ops_in : O → List Op) (v w : V) (room : ℕ) (all : List Op) (rest copied : O) (a b : Reader) → copied ≡ rest → BehindCode took v w room all (ops_in rest) a b → BehindCode took v w room all (ops_in copied) a b
+behind_kept {V} {O} took ops_in v w room all rest copied a b same h = subst (λ (x : O). BehindCode took v w room all (ops_in x) a b) (sym same) h
 
 -- what is left is an array or a blob, or nothing
 pub behind_then : (room : ℕ) (all left : List Op) (a b : Reader) (before now new : List ℕ) (result : Result (Unit {0}) Fault) (c : Reader) → singles left ≡ 0 → FarBehind room all left a b before now → AddsFew (values_of room left) room b result c now new → AddsFew (values_of room all) (singles all + room) a result c before new
@@ -251,6 +275,66 @@ list_then took u v w room all left found a b c result is far gains = λ before t
     let k = gains h.0 h.1 in
     (k.0, k.1, behind_then room all left a b before h.0 k.0 result c (ap singles is ∙ none_single found) h.2 (subst (λ (ops : List Op). AddsFew (values_of room ops) room b result c h.0 k.0) (sym is) k.2))
 
+-- a record that is refused before any of its values
+refused_at : {V : Type 0} (took : V → List ℕ → Type 0) (v : V) (rule : Grammar CodeAndValues) (room : ℕ) (a : Reader) (fault : Fault) (c : Reader) → Why rule a fault c → Gains took v v (AddsWithin rule room a (Err fault) c)
+refused_at took v rule room a fault c why = λ before t. (before, t, (([], sym (append-nil before), why), tt))
+
+-- ---- a record by its operands
+
+abbrev record_of : ℕ → List ℕ → CodeAndValues
+record_of code values = record { code = code; values = values }
+
+abbrev behind_code : (room : ℕ) → List Op → ℕ → Grammar CodeAndValues
+behind_code room others code = values_of room others >>= λ values. gives (record_of code values)
+
+pub coded_fails : {V : Type 0} (took : V → List ℕ → Type 0) (v : V) (room most : ℕ) (op : Op) (others : List Op) (a : Reader) (fault : Fault) (c : Reader) → Why (scalar op) a fault c → Gains took v v (AddsWithin (coded_fields room op others) most a (Err fault) c)
+coded_fails took v room most op others a fault c why = refused_at took v (coded_fields room op others) most a fault c (fault_then (scalar op) (behind_code room others) a fault c why)
+
+pub fields_fail : {V : Type 0} (took : V → List ℕ → Type 0) (v w : V) (room most : ℕ) (op : Op) (others : List Op) (a : Reader) (code : ℕ) (b : Reader) (fault : Fault) (c : Reader) → Took (scalar op) a code b → Gains took v w (AddsFew (values_of room others) most b (Err fault) c) → Gains took v w (AddsWithin (coded_fields room op others) most a (Err fault) c)
+fields_fail took v w room most op others a code b fault c t gains = λ before k.
+    let h = gains before k in
+    (h.0, h.1, ((h.2.0.0, h.2.0.1, took_then (scalar op) (behind_code room others) a code b (Err fault) c t (fault_then (values_of room others) (λ values. gives (record_of code values)) b fault c h.2.0.2)), tt))
+
+pub fields_read : {V : Type 0} (took : V → List ℕ → Type 0) (v w : V) (room most : ℕ) (op : Op) (others : List Op) (a : Reader) (code : ℕ) (b c : Reader) → Took (scalar op) a code b → Gains took v w (AddsFew (values_of room others) most b (Ok tt) c) → Gains took v w (AddsWithin (coded_fields room op others) most a (Ok code) c)
+fields_read took v w room most op others a code b c t gains = λ before k.
+    let h = gains before k in
+    (h.0, h.1, ((h.2.0.0, h.2.0.1, took_then (scalar op) (behind_code room others) a code b (Ok (record_of code h.2.0.0)) c t (and_gives (values_of room others) (λ values. record_of code values) b (Ok h.2.0.0) c h.2.0.2)), h.2.1))
+
+-- the single values are too many
+pub by_crowded : {V O : Type 0} (took : V → List ℕ → Type 0) (ops_in : O → List Op) (v : V) (first room : ℕ) (op : Op) (others copied : O) (count : ℕ) (a : Reader) (fault : Fault) (c : Reader) → count ≡ singles (ops_in copied) → copied ≡ others → Why (test (nat_le count room) (at TooManyValues first)) a fault c
+    → Gains took v v (AddsWithin (abbreviated first room (op ∷ ops_in others)) room a (Err fault) c)
+by_crowded took ops_in v first room op others copied count a fault c many same why = λ before k. (before, k, (record_crowded first room op (ops_in others) a fault before c (subst (λ (n : ℕ). Why (test (nat_le n room) (at TooManyValues first)) a fault c) (many ∙ ap (λ x. singles (ops_in x)) same) why), tt))
+
+-- or they are few
+pub by_fields : {V O : Type 0} (took : V → List ℕ → Type 0) (ops_in : O → List Op) (v w : V) (first room : ℕ) (op : Op) (others copied : O) (count : ℕ) (a b : Reader) (result : Result ℕ Fault) (c : Reader) → count ≡ singles (ops_in copied) → copied ≡ others → count ≤ room → Took (test (nat_le count room) (at TooManyValues first)) a tt b
+    → Gains took v w (AddsWithin (coded_fields (room - count) op (ops_in copied)) (singles (ops_in copied) + (room - count)) b result c) → Gains took v w (AddsWithin (abbreviated first room (op ∷ ops_in others)) room a result c)
+by_fields took ops_in v w first room op others copied count a b result c many same fits judged gains = λ before k.
+    let h = gains before k in
+    let is : count ≡ singles (ops_in others) = many ∙ ap (λ x. singles (ops_in x)) same in
+    let fields = subst (λ x. AddsWithin (coded_fields (room - count) op (ops_in x)) (singles (ops_in x) + (room - count)) b result c before h.0) same h.2 in
+    let read = subst (λ (n : ℕ). AddsWithin (coded_fields (room - n) op (ops_in others)) (singles (ops_in others) + (room - n)) b result c before h.0) is fields in
+    let test_took = subst (λ (n : ℕ). Took (test (nat_le n room) (at TooManyValues first)) a tt b) is judged in
+    (h.0, h.1, fields_judged first room op (ops_in others) a b result before h.0 c (omega (arith, is, fits)) test_took read)
+  where
+    fields_judged : (first room : ℕ) (op : Op) (others : List Op) (a b : Reader) (result : Result ℕ Fault) (before after : List ℕ) (c : Reader) → singles others ≤ room → Took (test (nat_le (singles others) room) (at TooManyValues first)) a tt b
+        → AddsWithin (coded_fields (room - singles others) op others) (singles others + (room - singles others)) b result c before after → AddsWithin (abbreviated first room (op ∷ others)) room a result c before after
+    unfolding abbreviated
+    fields_judged first room op others a b (Ok code) before after c fits t h = ((h.0.0, h.0.1, took_then (test (nat_le (singles others) room) (at TooManyValues first)) (λ x. coded_fields (room - singles others) op others) a tt b (Ok (record_of code h.0.0)) c t h.0.2), omega (arith, h.1, fits))
+    fields_judged first room op others a b (Err fault) before after c fits t h = ((h.0.0, h.0.1, took_then (test (nat_le (singles others) room) (at TooManyValues first)) (λ x. coded_fields (room - singles others) op others) a tt b (Err fault) c t h.0.2), tt)
+
+-- no more operands than places
+pub ops_within : (places : List HeldOp) → length (ops_of places) ≤ length places
+ops_within [] = omega arith
+ops_within (held.Literal v ∷ places) = omega (arith, ops_within places)
+ops_within (held.Fixed w ∷ places) = omega (arith, ops_within places)
+ops_within (held.Vbr w ∷ places) = omega (arith, ops_within places)
+ops_within (held.Array ∷ places) = omega (arith, ops_within places)
+ops_within (held.Char6 ∷ places) = omega (arith, ops_within places)
+ops_within (held.Blob ∷ places) = omega (arith, ops_within places)
+ops_within (held.Great part ∷ places) = omega (arith, ops_within places)
+ops_within (held.More part ∷ places) = omega (arith, ops_within places)
+ops_within (held.End ∷ places) = omega arith
+
 -- ---- a record by one of the definitions in force
 
 -- rules that read the same
@@ -269,21 +353,17 @@ plain_entry room first id definitions is p r = rw is refl
 -- a definition that is in force at an index
 pub defined_entry : (room first id : ℕ) (definitions : List (List Op)) (ops : List Op) → (id ≡ 3 → ⊥) → slice_get definitions (id - 4) ≡ Some ops → (p : ℕ) (r : List Bool) → reading (by_definition first room ops) p r ≡ reading (entry room first id definitions) p r
 unfolding entry
-defined_entry room first id definitions ops other at p r = rw (ne_eqb id 3 other, lt-ltb (id - 4) (length definitions) (slice_get_within definitions (id - 4) ops at), get_or_from_slice_get definitions (id - 4) [] ops at) refl
+defined_entry room first id definitions ops other here p r = rw (ne_eqb id 3 other, lt-ltb (id - 4) (length definitions) (slice_get_within definitions (id - 4) ops here), get_or_from_slice_get definitions (id - 4) ops [] here) refl
 
 -- none is
 pub undefined_entry : (room first id : ℕ) (definitions : List (List Op)) → (id ≡ 3 → ⊥) → length definitions ≤ id - 4 → (p : ℕ) (r : List Bool) → reading (refuses {A = CodeAndValues} (at UndefinedAbbrev first)) p r ≡ reading (entry room first id definitions) p r
 unfolding entry
-undefined_entry room first id definitions other past p r = rw (ne_eqb id 3 other, le-ltb (length definitions) (id - 4) past) refl
+undefined_entry room first id definitions other past p r = rw (ne_eqb id 3 other, le-ltb (id - 4) (length definitions) past) refl
 
 -- a definition that may be used
 pub lawful_entry : (first room : ℕ) (ops : List Op) → has_shape ops ≡ true → (p : ℕ) (r : List Bool) → reading (abbreviated first room ops) p r ≡ reading (by_definition first room ops) p r
 unfolding by_definition
 lawful_entry first room ops shape p r = rw shape refl
-
--- a record that is refused before any of its values
-refused_at : {V : Type 0} (took : V → List ℕ → Type 0) (v : V) (rule : Grammar CodeAndValues) (room : ℕ) (a : Reader) (fault : Fault) (c : Reader) → Why rule a fault c → Gains took v v (AddsWithin rule room a (Err fault) c)
-refused_at took v rule room a fault c why = λ before t. (before, t, (([], sym (append-nil before), why), tt))
 
 pub undefined_refused : {V : Type 0} (took : V → List ℕ → Type 0) (v : V) (room first id : ℕ) (definitions : List (List Op)) (a : Reader) (fault : Fault) (c : Reader) → (id ≡ 3 → ⊥) → length definitions ≤ id - 4 → Why (test false (at UndefinedAbbrev first)) a fault c → Gains took v v (AddsWithin (entry room first id definitions) room a (Err fault) c)
 undefined_refused took v room first id definitions a fault c other past why =
@@ -312,8 +392,8 @@ pub record Found (f : InForce) (index : ℕ) (head : Head) (ops : List Op) : Typ
   pub lawful : (head.layout ≡ layout.Unlawful → ⊥) → has_shape ops ≡ true
 
 pub found_ops : (f : InForce) (index : ℕ) (head : Head) → AreInForce f → IsHeadAt f index head → (ops : List Op) × Found f index head ops
-found_ops f index head sound at =
-    let found = found_at f index head sound at in
+found_ops f index head sound is =
+    let found = found_at f index head sound is in
     let shape = shape_laid _ head.layout found.held.laid in
     (_, record { here = found.here; definable = found.held.definable; unlawful = shape.0; lawful = shape.1 })
 
@@ -321,6 +401,6 @@ same_some : {A : Type 0} (x y : A) → Some x ≡ Some y → x ≡ y
 same_some x y e = cc
 
 pub found_held : (f : InForce) (index : ℕ) (head : Head) (ops : List Op) → AreInForce f → IsHeadAt f index head → slice_get (all_in f) index ≡ Some ops → Found f index head ops
-found_held f index head ops sound at here =
-    let found = found_ops f index head sound at in
+found_held f index head ops sound is here =
+    let found = found_ops f index head sound is in
     subst (Found f index head) (same_some found.0 ops (sym found.1.here ∙ here)) found.1

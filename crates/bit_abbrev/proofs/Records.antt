@@ -159,33 +159,9 @@ fields_of room op others = scalar op >>= λ code. values_of (room - singles othe
 abbrev judged : (first room : ℕ) → List Op → Grammar (Unit {0})
 judged first room others = test (nat_le (singles others) room) (at TooManyValues first)
 
--- what follows a record's code
-abbrev values_after : (room : ℕ) → List Op → ℕ → Grammar CodeAndValues
-values_after room others code = values_of (room - singles others) others >>= λ values. gives (record { code = code; values = values })
-
 pub record_crowded : (first room : ℕ) (op : Op) (others : List Op) (a : Reader) (fault : Fault) (now : List ℕ) (c : Reader) → Why (judged first room others) a fault c → AddsRecord (abbreviated first room (op ∷ others)) a (Err fault) now now c
 unfolding abbreviated
 record_crowded first room op others a fault now c why = ([], sym (append-nil now), fault_then (judged first room others) (λ holds. fields_of room op others) a fault c why)
-
-pub record_coded : (first room : ℕ) (op : Op) (others : List Op) (a b : Reader) (fault : Fault) (now : List ℕ) (c : Reader) → Took (judged first room others) a tt b → Why (scalar op) b fault c → AddsRecord (abbreviated first room (op ∷ others)) a (Err fault) now now c
-unfolding abbreviated
-record_coded first room op others a b fault now c few why = ([], sym (append-nil now), took_then (judged first room others) (λ holds. fields_of room op others) a tt b (Err fault) c few (fault_then (scalar op) (values_after room others) b fault c why))
-
-pub record_fails : (first room : ℕ) (op : Op) (others : List Op) (a b : Reader) (code : ℕ) (d : Reader) (fault : Fault) (now new : List ℕ) (c : Reader) → Took (judged first room others) a tt b → Took (scalar op) b code d → Adds (values_of (room - singles others) others) d (Err fault) now new c → AddsRecord (abbreviated first room (op ∷ others)) a (Err fault) now new c
-unfolding abbreviated
-record_fails first room op others a b code d fault now new c few t h = (
-  h.0,
-  h.1,
-  took_then (judged first room others) (λ holds. fields_of room op others) a tt b (Err fault) c few (took_then (scalar op) (values_after room others) b code d (Err fault) c t (fault_then (values_of (room - singles others) others) (λ values. gives (record { code = code; values = values })) d fault c h.2)),
-)
-
-pub record_read : (first room : ℕ) (op : Op) (others : List Op) (a b : Reader) (code : ℕ) (d : Reader) (now new : List ℕ) (c : Reader) → Took (judged first room others) a tt b → Took (scalar op) b code d → Adds (values_of (room - singles others) others) d (Ok tt) now new c → AddsRecord (abbreviated first room (op ∷ others)) a (Ok code) now new c
-unfolding abbreviated
-record_read first room op others a b code d now new c few t h = (
-  h.0,
-  h.1,
-  took_then (judged first room others) (λ holds. fields_of room op others) a tt b (Ok (record { code = code; values = h.0 })) c few (took_then (scalar op) (values_after room others) b code d (Ok (record { code = code; values = h.0 })) c t (and_gives (values_of (room - singles others) others) (λ values. record { code = code; values = values }) d (Ok h.0) c h.2)),
-)
 
 -- ---- the first operand and those after it
 

@@ -7,7 +7,7 @@ use Rattle.bit_fields.specs.Reader.{Reader, Took}
 use Rattle.bit_fields.proofs.Composing.{fault_then, took_then}
 use Rattle.bit_abbrev.specs.Values.{Has, Adds, AddsAll}
 use Rattle.bit_abbrev.proofs.Adding.{and_gives, adds_same, values_fail, CompletesAll}
-use Rattle.bit_abbrev.proofs.Taking.{SoFar}
+use Rattle.bit_abbrev.proofs.AddedValues.{SoFar}
 
 -- ---- a number of values, and more after them
 

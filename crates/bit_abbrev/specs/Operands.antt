@@ -4,6 +4,9 @@ use Rattle.std.specs.Prelude.{◌≡◌, ℕ, ◌+◌, ◌-◌, List, [], ◌∷
 use Rattle.bit_grammar.specs.declared.op.Op.{Op}
 use Rattle.bit_grammar.specs.declared.op.Op.TheVariants.{Array, Blob}
 use Rattle.bit_grammar.specs.FormatDefinition.{op_at, IsElement}
+use Rattle.bit_grammar.specs.Grammar.{Grammar, gives, ◌>>=◌}
+use Rattle.bit_grammar.specs.Record.{scalar, values_of}
+use Rattle.bit_grammar.specs.Terms.{CodeAndValues}
 
 -- an array is the last but one, and an element follows it; a blob is the last
 pub record OthersInOrder (ops : List Op) : Type 0 where
@@ -19,3 +22,7 @@ others_of ops = take (length ops - 1) (drop 1 ops)
 abbrev pub last_ops : (element : Option Op) → List Op
 last_ops (Some element) = Array ∷ element ∷ []
 last_ops None = Blob ∷ []
+
+-- the field of the operand of a record's code, and those of its values, at most `room` in an array or a blob
+abbrev pub coded_fields : (room : ℕ) → Op → List Op → Grammar CodeAndValues
+coded_fields room op others = scalar op >>= λ code. values_of room others >>= λ values. gives (record { code = code; values = values })

@@ -38,6 +38,7 @@ impl<'a> OpList for HeldOps<'a> {
 
     #[inline(always)]
     fn parted(self) -> Option<(Op, HeldOps<'a>)> {
+        let _places = self.places.len();
         self.split_first()
     }
 }

@@ -11,9 +11,9 @@ ghost use Rattle.bit_grammar.specs.declared.op.Op.{Op};
 ghost use Rattle.bit_grammar.specs.declared.op.Op.TheVariants.{Array, Blob, Fixed, Vbr};
 ghost use Rattle.bit_grammar.specs.declared.op.Place.TheVariants.{Later};
 ghost use Rattle.bit_fields.specs.declared.fault.Fault.TheVariants.{Memory};
-ghost use Rattle.bit_fields.specs.Reader.{Takes, IsOnly, failed_reader};
+ghost use Rattle.bit_fields.specs.Reader.{Took, Why, Takes, IsOnly, failed_reader};
 ghost use Rattle.bit_abbrev.specs.BlockMarks.{all_in, AreInForce};
-ghost use Rattle.bit_abbrev.specs.Operands.{last_ops};
+ghost use Rattle.bit_abbrev.specs.Operands.{coded_fields, last_ops};
 ghost use Rattle.bit_abbrev.specs.Values.{AddsAll, AddsFew, AddsSome, AddsWithin, Gains, Recorded};
 
 use crate::abbrev::Abbrev;
@@ -66,7 +66,7 @@ fn read_count<S: Source>(reader: &mut BitReader<S>, room: u64) -> Result<u64, Fa
 fn read_scalar<S: Source>(reader: &mut BitReader<S>, op: Op) -> Result<u64, Fault>
     requires lawful { HasLawfulValue op }
     requires live { reader.old.live ≡ true }
-    ensures takes { Takes (scalar op) reader.old result reader.new }
+    ensures { Takes (scalar op) reader.old result reader.new }
 {
     match op {
         Op::Literal(value) => Ok(value),
@@ -76,6 +76,26 @@ fn read_scalar<S: Source>(reader: &mut BitReader<S>, op: Op) -> Result<u64, Faul
         Op::Vbr(width) => reader.vbr(u32::from(width)),
         Op::Char6 => reader.char6(),
     }
+}
+
+/// Reads the field of such an operand and gives its value to the value sink.
+#[inline(always)]
+fn read_value<S: Source, V: ValueTaker>(
+    reader: &mut BitReader<S>,
+    op: Op,
+    values: &mut V,
+) -> Result<(), Fault>
+    requires lawful { HasLawfulValue op }
+    requires live { reader.old.live ≡ true }
+    ensures ok { OnOk result ((value : ℕ) × Took (scalar op) reader.old value reader.new
+        × ((before : List ℕ) → V.took values.old before
+        → V.took values.new (before ++ value ∷ []))) }
+    ensures err { IfErr result (λ fault. Why (scalar op) reader.old fault reader.new) }
+    ensures same { OnErr result
+        ((before : List ℕ) → V.took values.old before → V.took values.new before) }
+{
+    let value = read_scalar(reader, op)?;
+    keep(reader, values, value)
 }
 
 /// Adds `count` zeros, which take no bits, in one call once the value sink accepts it.
@@ -149,9 +169,8 @@ fn read_each<S: Source, V: ValueTaker>(
         (AddsAll (scalar op) count reader.old result reader.new) }
     ensures live { OnOk result (reader.new.live ≡ true) }
 {
-    for _ in 0..count {
-        let value = read_scalar(reader, op)?;
-        keep(reader, values, value)?;
+    for _done in 0..count {
+        read_value(reader, op, values)?;
     }
     Ok(())
 }
@@ -213,8 +232,8 @@ fn read_list<S: Source, V: ValueTaker>(
     element: Option<Op>,
     values: &mut V,
 ) -> Result<(), Fault>
-    requires element { IfSome element (λ op. IsElement op × HasLawfulValue op) }
-    ensures adds { Gains V.took values.old values.new
+    requires { IfSome element (λ op. IsElement op × HasLawfulValue op) }
+    ensures { Gains V.took values.old values.new
         (AddsFew (values_of room (last_ops element)) room reader.old result reader.new) }
 {
     let count = read_count(reader, room)?;
@@ -274,7 +293,7 @@ fn read_behind_code<O: OpList, S: Source, V: ValueTaker>(
     requires order { in_order Later (O.ops_in ops) ≡ true }
     requires lawful { AllByRecursion HasLawfulValue (O.ops_in ops) }
     requires live { reader.old.live ≡ true }
-    ensures adds { Gains V.took values.old values.new
+    ensures { Gains V.took values.old values.new
         (AddsFew (values_of room (O.ops_in ops)) (singles (O.ops_in ops) + room) reader.old result reader.new) }
 {
     let mut left = ops;
@@ -282,11 +301,30 @@ fn read_behind_code<O: OpList, S: Source, V: ValueTaker>(
         if is_list(op) {
             return read_list(reader, room, element_of(rest), values);
         }
-        let value = read_scalar(reader, op)?;
-        keep(reader, values, value)?;
+        read_value(reader, op, values)?;
         left = rest;
     }
     Ok(())
+}
+
+/// Reads the code of a record by its operand, and then its values, at most `room` of an array or a blob.
+#[inline(always)]
+fn read_coded<O: OpList, S: Source, V: ValueTaker>(
+    reader: &mut BitReader<S>,
+    code_op: Op,
+    others: O,
+    room: u64,
+    values: &mut V,
+) -> Result<u64, Fault>
+    requires order { in_order Later (O.ops_in others) ≡ true }
+    requires lawful { AllByRecursion HasLawfulValue (code_op ∷ O.ops_in others) }
+    requires live { reader.old.live ≡ true }
+    ensures { Gains V.took values.old values.new (AddsWithin (coded_fields room code_op (O.ops_in others))
+        (singles (O.ops_in others) + room) reader.old result reader.new) }
+{
+    let code = read_scalar(reader, code_op)?;
+    read_behind_code(reader, others, room, values)?;
+    Ok(code)
 }
 
 /// Reads a record by its operands, which are in a lawful order, after its abbreviation id, which began at `first`.
@@ -300,7 +338,7 @@ fn read_by<O: OpList, S: Source, V: ValueTaker>(
     requires shape { has_shape (O.ops_in ops) ≡ true }
     requires definable { Definable (O.ops_in ops) }
     requires live { reader.old.live ≡ true }
-    ensures adds { Gains V.took values.old values.new
+    ensures { Gains V.took values.old values.new
         (AddsWithin (abbreviated first room (O.ops_in ops)) room reader.old result reader.new) }
 {
     let Some((code_op, others)) = ops.parted() else {
@@ -308,9 +346,7 @@ fn read_by<O: OpList, S: Source, V: ValueTaker>(
     };
     let count = singles_in(others);
     reader.judge(count <= room, Reason::TooManyValues, first)?;
-    let code = read_scalar(reader, code_op)?;
-    read_behind_code(reader, others, room - count, values)?;
-    Ok(code)
+    read_coded(reader, code_op, others, room - count, values)
 }
 
 /// An abbreviation id that was read, from 3 on, and its first bit.
@@ -333,7 +369,7 @@ pub fn read_record<S: Source, V: ValueTaker>(
     requires definitions { AreInForce definitions.now }
     requires id { 3 ≤ begun.id }
     requires live { reader.old.live ≡ true }
-    ensures adds { Gains V.took values.old values.new
+    ensures { Gains V.took values.old values.new
         (AddsWithin (entry room begun.first begun.id (all_in definitions.now)) room reader.old result reader.new) }
 {
     let Begun { id, first } = begun;
@@ -358,7 +394,7 @@ fn read_plain<S: Source, V: ValueTaker>(
     room: u64,
     values: &mut V,
 ) -> Result<u64, Fault>
-    ensures adds { Gains V.took values.old values.new
+    ensures { Gains V.took values.old values.new
         (AddsWithin (unabbreviated room) room reader.old result reader.new) }
 {
     let code = reader.vbr(6)?;

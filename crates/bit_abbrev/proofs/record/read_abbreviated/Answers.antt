@@ -1,5 +1,5 @@
 use Rattle.bit_grammar.specs.Record.{abbreviated}
-use Rattle.bit_abbrev.proofs.Taking.{recorded_only, not_recorded, not_recorded_only, not_recorded_few}
+use Rattle.bit_abbrev.proofs.AddedValues.{recorded_only, not_recorded, not_recorded_only, not_recorded_few}
 use Rattle.bit_abbrev.proofs.record.read_abbreviated.Goals as goal
 
 pub returns-in-Ok-clause-only : goal.returns-in-Ok-clause-only

@@ -3,7 +3,7 @@ use Rattle.std.proofs.lemmas.Result.{err_from_is_err_and}
 use Rattle.bit_grammar.specs.Record.{scalar}
 use Rattle.bit_abbrev.proofs.RecordReading.{empty_elements}
 use Rattle.bit_abbrev.proofs.Several.{far_goes_by, far_fails_by, far_fails_in}
-use Rattle.bit_abbrev.proofs.Taking.{far_begins, far_ends}
+use Rattle.bit_abbrev.proofs.AddedValues.{far_begins, far_ends}
 use Rattle.bit_abbrev.proofs.record.read_elements.Goals as goal
 
 pub returns-then-is_empty-clause-adds : goal.returns-then-is_empty-clause-adds

@@ -1,7 +1,7 @@
 use Rattle.std.proofs.Common.{◌≡◌, ◌≤◌, ◌-◌, true}
 use Rattle.bit_grammar.specs.Record.{scalar}
 use Rattle.bit_abbrev.specs.Values.{Gains}
-use Rattle.bit_abbrev.proofs.Taking.{SoFar}
+use Rattle.bit_abbrev.proofs.AddedValues.{SoFar}
 use Rattle.bit_abbrev.proofs.record.read_elements.Given as goal
 
 abbrev pub invariant-loop-done : goal.invariant-loop-done

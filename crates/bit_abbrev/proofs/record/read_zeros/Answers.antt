@@ -5,7 +5,7 @@ use Rattle.std.proofs.lemmas.Result.{err_from_is_err_and}
 use Rattle.bit_grammar.specs.Grammar.{gives}
 use Rattle.bit_fields.proofs.Composing.{took_nothing}
 use Rattle.bit_abbrev.proofs.RecordReading.{far_full}
-use Rattle.bit_abbrev.proofs.Taking.{far_begins, far_goes_on, far_ends, passed_behind, zeros_took}
+use Rattle.bit_abbrev.proofs.AddedValues.{far_begins, far_goes_on, far_ends, passed_behind, zeros_took}
 use Rattle.bit_abbrev.proofs.record.read_zeros.Goals as goal
 
 pub loop-done-init : goal.loop-done-init
