@@ -305,6 +305,12 @@ pub by_crowded : {V O : Type 0} (took : V → List ℕ → Type 0) (ops_in : O �
     → Gains took v v (AddsWithin (abbreviated first room (op ∷ ops_in others)) room a (Err fault) c)
 by_crowded took ops_in v first room op others copied count a fault c many same why = λ before k. (before, k, (record_crowded first room op (ops_in others) a fault before c (subst (λ (n : ℕ). Why (test (nat_le n room) (at TooManyValues first)) a fault c) (many ∙ ap (λ x. singles (ops_in x)) same) why), tt))
 
+fields_judged : (first room : ℕ) (op : Op) (others : List Op) (a b : Reader) (result : Result ℕ Fault) (before after : List ℕ) (c : Reader) → singles others ≤ room → Took (test (nat_le (singles others) room) (at TooManyValues first)) a tt b
+    → AddsWithin (coded_fields (room - singles others) op others) (singles others + (room - singles others)) b result c before after → AddsWithin (abbreviated first room (op ∷ others)) room a result c before after
+unfolding abbreviated
+fields_judged first room op others a b (Ok code) before after c fits t h = ((h.0.0, h.0.1, took_then (test (nat_le (singles others) room) (at TooManyValues first)) (λ x. coded_fields (room - singles others) op others) a tt b (Ok (record_of code h.0.0)) c t h.0.2), omega (arith, h.1, fits))
+fields_judged first room op others a b (Err fault) before after c fits t h = ((h.0.0, h.0.1, took_then (test (nat_le (singles others) room) (at TooManyValues first)) (λ x. coded_fields (room - singles others) op others) a tt b (Err fault) c t h.0.2), tt)
+
 -- or they are few
 pub by_fields : {V O : Type 0} (took : V → List ℕ → Type 0) (ops_in : O → List Op) (v w : V) (first room : ℕ) (op : Op) (others copied : O) (count : ℕ) (a b : Reader) (result : Result ℕ Fault) (c : Reader) → count ≡ singles (ops_in copied) → copied ≡ others → count ≤ room → Took (test (nat_le count room) (at TooManyValues first)) a tt b
     → Gains took v w (AddsWithin (coded_fields (room - count) op (ops_in copied)) (singles (ops_in copied) + (room - count)) b result c) → Gains took v w (AddsWithin (abbreviated first room (op ∷ ops_in others)) room a result c)
@@ -315,12 +321,6 @@ by_fields took ops_in v w first room op others copied count a b result c many sa
     let read = subst (λ (n : ℕ). AddsWithin (coded_fields (room - n) op (ops_in others)) (singles (ops_in others) + (room - n)) b result c before h.0) is fields in
     let test_took = subst (λ (n : ℕ). Took (test (nat_le n room) (at TooManyValues first)) a tt b) is judged in
     (h.0, h.1, fields_judged first room op (ops_in others) a b result before h.0 c (omega (arith, is, fits)) test_took read)
-  where
-    fields_judged : (first room : ℕ) (op : Op) (others : List Op) (a b : Reader) (result : Result ℕ Fault) (before after : List ℕ) (c : Reader) → singles others ≤ room → Took (test (nat_le (singles others) room) (at TooManyValues first)) a tt b
-        → AddsWithin (coded_fields (room - singles others) op others) (singles others + (room - singles others)) b result c before after → AddsWithin (abbreviated first room (op ∷ others)) room a result c before after
-    unfolding abbreviated
-    fields_judged first room op others a b (Ok code) before after c fits t h = ((h.0.0, h.0.1, took_then (test (nat_le (singles others) room) (at TooManyValues first)) (λ x. coded_fields (room - singles others) op others) a tt b (Ok (record_of code h.0.0)) c t h.0.2), omega (arith, h.1, fits))
-    fields_judged first room op others a b (Err fault) before after c fits t h = ((h.0.0, h.0.1, took_then (test (nat_le (singles others) room) (at TooManyValues first)) (λ x. coded_fields (room - singles others) op others) a tt b (Err fault) c t h.0.2), tt)
 
 -- no more operands than places
 pub ops_within : (places : List HeldOp) → length (ops_of places) ≤ length places

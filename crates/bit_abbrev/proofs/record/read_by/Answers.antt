@@ -2,7 +2,7 @@ use Rattle.std.proofs.Common.{◌≤◌, rules, subst}
 use Rattle.std.proofs.lemmas.Result.{err_from_is_err_and}
 use Rattle.std.specs.List.{AllByRecursion}
 use Rattle.bit_grammar.specs.FormatDefinition.{HasLawfulValue}
-use Rattle.bit_abbrev.proofs.RecordReading.{behind_first, by_crowded, by_fields, few_behind}
+use Rattle.bit_abbrev.proofs.RecordReading.{code_first, by_crowded, by_fields}
 use Rattle.bit_abbrev.proofs.record.read_by.Goals as goal
 
 pub returns-in_err-judge : goal.returns-in_err-judge
