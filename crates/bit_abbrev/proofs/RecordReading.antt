@@ -404,3 +404,8 @@ pub found_held : (f : InForce) (index : ℕ) (head : Head) (ops : List Op) → A
 found_held f index head ops sound is here =
     let found = found_ops f index head sound is in
     subst (Found f index head) (same_some found.0 ops (sym found.1.here ∙ here)) found.1
+
+-- whether they are in a lawful order, as their layout tells
+pub shape_told : (f : InForce) (index : ℕ) (head : Head) (ops : List Op) (holds : Bool) → Found f index head ops → (holds ≡ true → head.layout ≢ layout.Unlawful) → (holds ≡ false → head.layout ≡ layout.Unlawful) → holds ≡ has_shape ops
+shape_told f index head ops true found lawful unlawful = sym (found.lawful (lawful refl))
+shape_told f index head ops false found lawful unlawful = sym (found.unlawful (unlawful refl))

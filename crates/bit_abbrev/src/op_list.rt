@@ -3,7 +3,7 @@
 ghost use Rattle.std.specs.Prelude.{◌≡◌, ◌∷◌, [], ◌<◌, ◌^◌, length, IfSome, IfNone};
 ghost use Rattle.bit_abbrev.specs.HeldPlaces.{ops_of};
 
-use crate::held_op::HeldOps;
+use crate::held_op::{HeldOp, HeldOps};
 use bit_grammar::Op;
 
 /// Operands one after another.
@@ -33,12 +33,20 @@ impl<'a> OpList for &'a [Op] {
     }
 }
 
+/// How many places there are.
+#[inline(always)]
+fn len_of(places: &[HeldOp]) -> usize
+    ensures { result ≡ length places.now }
+{
+    places.len()
+}
+
 impl<'a> OpList for HeldOps<'a> {
     ghost ops_in = { λ held. ops_of held.places.now };
 
     #[inline(always)]
     fn parted(self) -> Option<(Op, HeldOps<'a>)> {
-        let _places = self.places.len();
+        let _ = len_of(self.places);
         self.split_first()
     }
 }

@@ -12,6 +12,7 @@ ghost use Rattle.bit_grammar.specs.declared.op.Op.TheVariants.{Array, Blob, Fixe
 ghost use Rattle.bit_grammar.specs.declared.op.Place.TheVariants.{Later};
 ghost use Rattle.bit_fields.specs.declared.fault.Fault.TheVariants.{Memory};
 ghost use Rattle.bit_fields.specs.Reader.{Took, Why, Takes, IsOnly, failed_reader};
+ghost use Rattle.bit_abbrev.specs.declared.layout.Layout.TheVariants.{Unlawful};
 ghost use Rattle.bit_abbrev.specs.BlockMarks.{all_in, AreInForce};
 ghost use Rattle.bit_abbrev.specs.Operands.{coded_fields, last_ops};
 ghost use Rattle.bit_abbrev.specs.Values.{AddsAll, AddsFew, AddsSome, AddsWithin, Gains, Recorded};
@@ -349,6 +350,15 @@ fn read_by<O: OpList, S: Source, V: ValueTaker>(
     read_coded(reader, code_op, others, room - count, values)
 }
 
+/// Whether the operands of a definition are in a lawful order.
+#[inline(always)]
+fn is_lawful(layout: Layout) -> bool
+    ensures yes { result ≡ true → layout ≢ Unlawful }
+    ensures no { result ≡ false → layout ≡ Unlawful }
+{
+    !matches!(layout, Layout::Unlawful)
+}
+
 /// An abbreviation id that was read, from 3 on, and its first bit.
 #[derive(Clone, Copy)]
 pub struct Begun {
@@ -381,8 +391,7 @@ pub fn read_record<S: Source, V: ValueTaker>(
         reader.judge(false, Reason::UndefinedAbbrev, first)?;
         unreachable!();
     };
-    let is_lawful = head.layout != Layout::Unlawful;
-    reader.judge(is_lawful, Reason::AbbrevShape, first)?;
+    reader.judge(is_lawful(head.layout), Reason::AbbrevShape, first)?;
     read_by(reader, definitions.held(index, head), first, room, values)
 }
 
