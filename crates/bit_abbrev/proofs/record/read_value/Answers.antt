@@ -1,5 +1,3 @@
-use Rattle.std.proofs.Common.{◌≡◌}
-use Rattle.std.proofs.lemmas.Result.{err_from_is_err_and}
 use Rattle.bit_grammar.specs.Record.{scalar}
 use Rattle.bit_abbrev.proofs.RecordReading.{value_kept, value_not_kept}
 use Rattle.bit_abbrev.proofs.record.read_value.Goals as goal
