@@ -7,7 +7,7 @@ pub mod Table
 mod Tables
 mod Places
 pub mod Adding
-pub mod Taking
+pub mod AddedValues
 pub mod Operands
 pub mod Shapes
 pub mod ShortOps
@@ -21,5 +21,4 @@ pub mod PassedRecords
 pub mod Singles
 pub mod FewValues
 pub mod Buffered
-pub mod Missing
-pub mod HeldRecords
+pub mod RecordReading
