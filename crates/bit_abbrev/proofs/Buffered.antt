@@ -9,7 +9,7 @@ use Rattle.bit_fields.proofs.BufferedReads.{reads_took, reads_forward}
 use Rattle.bit_abbrev.specs.Bits.{Answers, IsHere}
 use Rattle.bit_abbrev.specs.Values.{Gains, AddsAll, PassesValues}
 use Rattle.bit_abbrev.proofs.Adding.{all_begin, all_go_on, all_done}
-use Rattle.bit_abbrev.proofs.Taking.{SoFar, passed}
+use Rattle.bit_abbrev.proofs.AddedValues.{SoFar, passed}
 
 pub took_at : {A : Type 0} (rule : Grammar A) (a : BufferedBits) (value : A) (b : BufferedBits) → Reads rule a value b → Took rule (reader_at a) value (reader_at b)
 took_at rule a value b seen = reads_took rule a value b seen (reads_forward rule a value b seen)

@@ -1,8 +1,8 @@
 pub mod Breaks
 pub mod Entries
 pub mod Adding
-pub mod Taking
 pub mod Takings
+pub mod AddedValues
 pub mod Operands
 pub mod Shapes
 pub mod ShortOps
@@ -14,7 +14,6 @@ pub mod PassedRecords
 pub mod Singles
 pub mod FewValues
 pub mod Buffered
-pub mod Missing
 mod PlacesHeld
 mod PlaceLayouts
 mod DefinitionLists
@@ -27,3 +26,4 @@ mod BlockPlans
 mod Growing
 mod PlacedDefinitions
 mod CompactReading
+pub mod RecordReading

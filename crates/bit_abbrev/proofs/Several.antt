@@ -3,11 +3,11 @@ use Rattle.std.proofs.Common.{◌≡◌, ℕ, zero, suc, ◌+◌, ◌-◌, ◌�
 use Rattle.bit_grammar.specs.Grammar as grammar
 use Rattle.bit_grammar.specs.Grammar.{Grammar, gives, ◌>>=◌, ◌and_then◌, repeat, reading}
 use Rattle.bit_fields.specs.declared.fault.Fault.{Fault}
-use Rattle.bit_fields.specs.Reader.{Reader, Took, Why}
+use Rattle.bit_fields.specs.Reader.{Reader, Took}
 use Rattle.bit_fields.proofs.Composing.{fault_then, took_then}
 use Rattle.bit_abbrev.specs.Values.{Has, Adds, AddsAll}
-use Rattle.bit_abbrev.proofs.Adding.{and_gives, adds_same, CompletesAll}
-use Rattle.bit_abbrev.proofs.Taking.{SoFar}
+use Rattle.bit_abbrev.proofs.Adding.{and_gives, adds_same, values_fail, CompletesAll}
+use Rattle.bit_abbrev.proofs.AddedValues.{SoFar}
 
 -- ---- a number of values, and more after them
 
@@ -84,12 +84,11 @@ far_fails_by took v w rule count a before done b fault c h gains =
     let g = gains h.0 h.1 in
     (g.0, g.1, (h.2.all.so (Err fault) g.0 c g.2.0, tt))
 
--- ---- faults
-
--- several values were taken, and then the fault came
-pub some_added : {V : Type 0} (took : V → List ℕ → Type 0) (v : V) (rule : Grammar ℕ) (some count : ℕ) (a b d : Reader) (fault : Fault) (c : Reader) (before : List ℕ) → Has took v (AddsAll rule some a (Ok tt) b before) → ((values : List ℕ) → Took (repeat some rule) a values b → Why (repeat count rule) d fault c) → Has took v (AddsAll rule count d (Err fault) c before)
-some_added took v rule some count a b d fault c before h why = (h.0, h.1, ((h.2.0.0, h.2.0.1, why h.2.0.0 h.2.0.2), tt))
-
--- several values were taken by one reader, and another reader took the same
-pub as_added : {V : Type 0} (took : V → List ℕ → Type 0) (v : V) (rule : Grammar ℕ) (some : ℕ) (a b c d : Reader) (before : List ℕ) → Has took v (AddsAll rule some a (Ok tt) b before) → ((values : List ℕ) → Took (repeat some rule) a values b → Took (repeat some rule) c values d) → Has took v (AddsAll rule some c (Ok tt) d before)
-as_added took v rule some a b c d before h so = (h.0, h.1, ((h.2.0.0, h.2.0.1, so h.2.0.0 h.2.0.2), h.2.1))
+-- some of them were to be taken, and then the fault came
+pub far_fails_in : {V : Type 0} (took : V → List ℕ → Type 0) (v w : V) (rule : Grammar ℕ) (count : ℕ) (a : Reader) (before : List ℕ) (done : ℕ) (b : Reader) (some : ℕ) (fault : Fault) (c : Reader) → some ≤ count - done → Has took v (SoFar rule count a done b before) → ((values : List ℕ) → took v values → Has took w (AddsAll rule some b (Err fault) c values)) → Has took w (AddsAll rule count a (Err fault) c before)
+far_fails_in took v w rule count a before done b some fault c few h gains =
+    let g = gains h.0 h.1 in
+    let rest = count - (done + some) in
+    let left : count - done ≡ some + rest = omega (arith, few) in
+    let all : Adds (repeat (some + rest) rule) b (Err fault) h.0 g.0 c = adds_same (both rule some rest) (repeat (some + rest) rule) b (Err fault) h.0 g.0 c (both_read rule some rest) (values_fail (repeat some rule) (λ values. repeat rest rule >>= λ others. gives (values ++ others)) b fault h.0 g.0 c g.2.0) in
+    (g.0, g.1, (h.2.all.so (Err fault) g.0 c (subst (λ (n : ℕ). Adds (repeat n rule) b (Err fault) h.0 g.0 c) (sym left) all), tt))

@@ -1,12 +1,12 @@
 -- The operands of a definition after the first one. Source: "LLVM Bitcode File Format", "Abbreviation IDs", "DEFINE_ABBREV
 -- Encoding".
-use Rattle.std.specs.Prelude.{◌≡◌, ℕ, ◌+◌, ◌-◌, List, length, take, drop}
+use Rattle.std.specs.Prelude.{◌≡◌, ℕ, ◌+◌, ◌-◌, List, [], ◌∷◌, length, take, drop, Option, Some, None}
 use Rattle.bit_grammar.specs.declared.op.Op.{Op}
 use Rattle.bit_grammar.specs.declared.op.Op.TheVariants.{Array, Blob}
 use Rattle.bit_grammar.specs.FormatDefinition.{op_at, IsElement}
-use Rattle.bit_grammar.specs.Record.{singles}
-use Rattle.bit_abbrev.specs.declared.tail.Tail.{Tail}
-use Rattle.bit_abbrev.specs.declared.tail.Tail.TheVariants as tail
+use Rattle.bit_grammar.specs.Grammar.{Grammar, gives, ◌>>=◌}
+use Rattle.bit_grammar.specs.Record.{scalar, values_of}
+use Rattle.bit_grammar.specs.Terms.{CodeAndValues}
 
 -- an array is the last but one, and an element follows it; a blob is the last
 pub record OthersInOrder (ops : List Op) : Type 0 where
@@ -18,12 +18,11 @@ pub record OthersInOrder (ops : List Op) : Type 0 where
 abbrev pub others_of : List Op → List Op
 others_of ops = take (length ops - 1) (drop 1 ops)
 
--- how many operands follow those that stand for one value each
-abbrev pub tail_length : Tail → ℕ
-tail_length tail.Nothing = 0
-tail_length tail.Blob = 1
-tail_length tail.Array = 2
+-- the last operands of a definition that tell of a list: an array of this element, or a blob
+abbrev pub last_ops : (element : Option Op) → List Op
+last_ops (Some element) = Array ∷ element ∷ []
+last_ops None = Blob ∷ []
 
--- what follows those operands
-abbrev pub HasTail : List Op → Tail → Type 0
-HasTail ops tail = length ops ≡ 1 + (singles (others_of ops) + tail_length tail)
+-- the field of the operand of a record's code, and those of its values, at most `room` in an array or a blob
+abbrev pub coded_fields : (room : ℕ) → Op → List Op → Grammar CodeAndValues
+coded_fields room op others = scalar op >>= λ code. values_of room others >>= λ values. gives (record { code = code; values = values })

@@ -2,9 +2,7 @@
 use Rattle.std.specs.Prelude.{◌≡◌, ℕ, ◌+◌, ◌≤◌, true, List, ◌++◌, length, Result, Ok, Err}
 use Rattle.std.specs.Result.{OnOk}
 use Rattle.bit_grammar.specs.Grammar.{Grammar, repeat}
-use Rattle.bit_grammar.specs.Record.{values_of}
 use Rattle.bit_grammar.specs.Terms.{CodeAndValues}
-use Rattle.bit_grammar.specs.declared.op.Op.{Op}
 use Rattle.bit_fields.specs.declared.fault.Fault.{Fault}
 use Rattle.bit_fields.specs.Reader.{Reader, Took, Why}
 
@@ -44,21 +42,6 @@ pub record Completes (rule : Grammar (List ℕ)) (a : Reader) (before : List ℕ
   pub live : b.live ≡ true
   pub so : (result : Result (Unit {0}) Fault) (after : List ℕ) (c : Reader)
       → Adds rest b result now after c → Adds rule a result before after c
-
--- A call adds one value for each of these operands, and the values of those after them complete what all add.
-abbrev pub AddsFirst : (room : ℕ) → (ops tail : List Op) → Reader → Result (Unit {0}) Fault
-    → Reader → (before after : List ℕ) → Type 0
-AddsFirst room ops tail old (Ok x) new before after
-    = Completes (values_of room (ops ++ tail)) old before (values_of room tail) new after
-    × (length after ≡ length before + length ops)
-AddsFirst room ops tail old (Err fault) new before after
-    = Adds (values_of room (ops ++ tail)) old (Err fault) before after new
-
--- skips one value for each of these operands
-abbrev pub PassesFirst : (room : ℕ) → (ops tail : List Op) → Reader → Reader
-    → Result (Unit {0}) Fault → Type 0
-PassesFirst room ops tail old new result = (before : List ℕ) → (values : List ℕ)
-    × (length values ≡ length ops) × AddsFirst room ops tail old result new before (before ++ values)
 
 -- A call adds the values that the rule reads, at most `room`.
 abbrev pub AddsFew : Grammar (List ℕ) → (room : ℕ) → Reader → Result (Unit {0}) Fault → Reader

@@ -1,18 +1,21 @@
-ghost use Rattle.std.specs.Prelude.{◌≡◌, ◌≢◌, ◌+◌, ◌-◌, ◌≤◌, ℕ, List, [], ◌∷◌, ◌++◌, Ok, Err, IfErr, IfOk, OnErr, OnOk, length, true, nat_le, false};
+//! Reading records by a reader, which judges them and asks its source.
+
+ghost use Rattle.std.specs.Prelude.{◌≡◌, ◌≢◌, ◌+◌, ◌≤◌, ◌<◌, ◌^◌, ◌⊎◌, ℕ, List, [], ◌∷◌, ◌++◌, Ok, IfErr, IfOk, IfSome, IfNone, OnErr, OnOk, length, true, false};
 ghost use Rattle.std.specs.List.{AllByRecursion};
 ghost use Rattle.bit_grammar.specs.Grammar.{gives};
+ghost use Rattle.bit_grammar.specs.Blocks.{entry};
 ghost use Rattle.bit_grammar.specs.Record.{scalar, singles, value_count, values_of, abbreviated, unabbreviated};
-ghost use Rattle.bit_grammar.specs.Definition.{has_shape};
-ghost use Rattle.bit_grammar.specs.FormatDefinition.{op_at, IsElement, HasLawfulValue, Lawful};
+ghost use Rattle.bit_grammar.specs.Definition.{has_shape, in_order};
+ghost use Rattle.bit_grammar.specs.FormatDefinition.{IsElement, HasLawfulValue, Definable};
 ghost use Rattle.bit_grammar.specs.declared.op.Op.{Op};
-ghost use Rattle.bit_grammar.specs.declared.op.Op.TheVariants.{Array, Blob};
-ghost use Rattle.bit_fields.specs.declared.fault.Fault.{Fault};
+ghost use Rattle.bit_grammar.specs.declared.op.Op.TheVariants.{Array, Blob, Fixed, Vbr};
+ghost use Rattle.bit_grammar.specs.declared.op.Place.TheVariants.{Later};
 ghost use Rattle.bit_fields.specs.declared.fault.Fault.TheVariants.{Memory};
-ghost use Rattle.bit_fields.specs.Reader.{Takes, IsOnly, failed_reader};
-ghost use Rattle.bit_abbrev.specs.Bits.{Answers};
-ghost use Rattle.bit_abbrev.specs.Operands.{OthersInOrder, others_of};
-ghost use Rattle.bit_abbrev.specs.Values.{AddsAll, AddsFew, AddsFirst, AddsWithin, Gains, Keeps, PassesFirst, Recorded};
-//! Reading records by a reader, which judges them and asks its source.
+ghost use Rattle.bit_fields.specs.Reader.{Took, Why, Takes, IsOnly, failed_reader};
+ghost use Rattle.bit_abbrev.specs.declared.layout.Layout.TheVariants.{Unlawful};
+ghost use Rattle.bit_abbrev.specs.BlockMarks.{all_in, AreInForce};
+ghost use Rattle.bit_abbrev.specs.Operands.{coded_fields, last_ops};
+ghost use Rattle.bit_abbrev.specs.Values.{AddsAll, AddsFew, AddsSome, AddsWithin, Gains, Recorded};
 
 use crate::abbrev::Abbrev;
 use crate::definitions::InForce;
@@ -32,7 +35,14 @@ fn keep<S: Source, V: ValueTaker>(
     reader: &mut BitReader<S>,
     values: &mut V,
     value: u64,
-) -> Result<(), Fault> {
+) -> Result<(), Fault>
+    ensures ok { OnOk result ((reader.new ≡ reader.old)
+        × ((before : List ℕ) → V.took values.old before
+        → V.took values.new (before ++ value ∷ []))) }
+    ensures err { IfErr result (λ fault. (fault ≡ Memory) × (reader.new ≡ failed_reader reader.old)) }
+    ensures same { OnErr result
+        ((before : List ℕ) → V.took values.old before → V.took values.new before) }
+{
     match values.take(value) {
         Ok(()) => Ok(()),
         Err(_) => Err(reader.fail(Fault::Memory)),
@@ -40,7 +50,11 @@ fn keep<S: Source, V: ValueTaker>(
 }
 
 /// Reads a number of values, at most `room`.
-fn read_count<S: Source>(reader: &mut BitReader<S>, room: u64) -> Result<u64, Fault> {
+#[tactic(auto, unfolding(bit_grammar::specs::Record::value_count))]
+fn read_count<S: Source>(reader: &mut BitReader<S>, room: u64) -> Result<u64, Fault>
+    ensures takes { Takes (value_count room) reader.old result reader.new }
+    ensures few { IfOk result (λ count. count ≤ room) }
+{
     let first = reader.position();
     let count = reader.vbr(6)?;
     reader.judge(count <= room, Reason::TooManyValues, first)?;
@@ -49,14 +63,40 @@ fn read_count<S: Source>(reader: &mut BitReader<S>, room: u64) -> Result<u64, Fa
 
 /// Reads the field of an operand that gives one value.
 #[inline(always)]
-fn read_scalar<S: Source>(reader: &mut BitReader<S>, op: Op) -> Result<u64, Fault> {
+#[tactic(auto, unfolding(bit_grammar::specs::Record::scalar, bit_grammar::specs::Fields::vbr))]
+fn read_scalar<S: Source>(reader: &mut BitReader<S>, op: Op) -> Result<u64, Fault>
+    requires lawful { HasLawfulValue op }
+    requires live { reader.old.live ≡ true }
+    ensures { Takes (scalar op) reader.old result reader.new }
+{
     match op {
         Op::Literal(value) => Ok(value),
-        Op::Fixed(0) | Op::Vbr(0) | Op::Array | Op::Blob => Ok(0),
+        Op::Fixed(0) => Ok(0),
+        Op::Vbr(0) | Op::Array | Op::Blob => Ok(0),
         Op::Fixed(width) => reader.fixed(u32::from(width)),
         Op::Vbr(width) => reader.vbr(u32::from(width)),
         Op::Char6 => reader.char6(),
     }
+}
+
+/// Reads the field of such an operand and gives its value to the value sink.
+#[inline(always)]
+fn read_value<S: Source, V: ValueTaker>(
+    reader: &mut BitReader<S>,
+    op: Op,
+    values: &mut V,
+) -> Result<(), Fault>
+    requires lawful { HasLawfulValue op }
+    requires live { reader.old.live ≡ true }
+    ensures ok { OnOk result ((value : ℕ) × Took (scalar op) reader.old value reader.new
+        × ((before : List ℕ) → V.took values.old before
+        → V.took values.new (before ++ value ∷ []))) }
+    ensures err { IfErr result (λ fault. Why (scalar op) reader.old fault reader.new) }
+    ensures same { OnErr result
+        ((before : List ℕ) → V.took values.old before → V.took values.new before) }
+{
+    let value = read_scalar(reader, op)?;
+    keep(reader, values, value)
 }
 
 /// Adds `count` zeros, which take no bits, in one call once the value sink accepts it.
@@ -64,7 +104,12 @@ fn read_zeros<S: Source, V: ValueTaker>(
     reader: &mut BitReader<S>,
     count: u64,
     values: &mut V,
-) -> Result<(), Fault> {
+) -> Result<(), Fault>
+    requires live { reader.old.live ≡ true }
+    ensures adds { Gains V.took values.old values.new
+        (AddsAll (gives 0) count reader.old result reader.new) }
+    ensures live { OnOk result (reader.new.live ≡ true) }
+{
     for done in 0..count {
         if values.pass_zeros(count - done) {
             return Ok(());
@@ -74,13 +119,30 @@ fn read_zeros<S: Source, V: ValueTaker>(
     Ok(())
 }
 
+/// Whether the fields of an operand take no bits.
+#[inline(always)]
+fn is_empty(op: Op) -> bool
+    ensures yes { result ≡ true → (op ≡ Fixed 0) ⊎ (op ≡ Vbr 0) }
+    ensures no { result ≡ false → (op ≢ Fixed 0) × (op ≢ Vbr 0) }
+{
+    matches!(op, Op::Fixed(0) | Op::Vbr(0))
+}
+
 /// Reads at most `most` fields of an operand that are there, if 64 bits are. Returns how many.
 fn read_some<S: Source, V: ValueTaker>(
     reader: &mut BitReader<S>,
     most: u64,
     op: Op,
     values: &mut V,
-) -> Result<u64, Fault> {
+) -> Result<u64, Fault>
+    requires element { IsElement op }
+    requires lawful { HasLawfulValue op }
+    requires some { op ≢ Vbr 0 }
+    requires live { reader.old.live ≡ true }
+    ensures adds { AddsSome V.took (scalar op) most reader.old result reader.new values.old values.new }
+    ensures most { IfOk result (λ count. count ≤ most) }
+    ensures live { OnOk result (reader.new.live ≡ true) }
+{
     let bits = reader.bits();
     if !bits.has(64) {
         return Ok(0);
@@ -101,10 +163,15 @@ fn read_each<S: Source, V: ValueTaker>(
     count: u64,
     op: Op,
     values: &mut V,
-) -> Result<(), Fault> {
-    for _ in 0..count {
-        let value = read_scalar(reader, op)?;
-        keep(reader, values, value)?;
+) -> Result<(), Fault>
+    requires lawful { HasLawfulValue op }
+    requires live { reader.old.live ≡ true }
+    ensures adds { Gains V.took values.old values.new
+        (AddsAll (scalar op) count reader.old result reader.new) }
+    ensures live { OnOk result (reader.new.live ≡ true) }
+{
+    for _done in 0..count {
+        read_value(reader, op, values)?;
     }
     Ok(())
 }
@@ -116,7 +183,14 @@ fn read_few<S: Source, V: ValueTaker>(
     count: u64,
     op: Op,
     values: &mut V,
-) -> Result<(), Fault> {
+) -> Result<(), Fault>
+    requires element { IsElement op }
+    requires lawful { HasLawfulValue op }
+    requires live { reader.old.live ≡ true }
+    ensures adds { Gains V.took values.old values.new
+        (AddsAll (scalar op) count reader.old result reader.new) }
+    ensures live { OnOk result (reader.new.live ≡ true) }
+{
     match op {
         Op::Fixed(width) => read_each(reader, count, Op::Fixed(width), values),
         Op::Vbr(width) => read_each(reader, count, Op::Vbr(width), values),
@@ -131,8 +205,15 @@ fn read_elements<S: Source, V: ValueTaker>(
     count: u64,
     op: Op,
     values: &mut V,
-) -> Result<(), Fault> {
-    if let Op::Fixed(0) | Op::Vbr(0) = op {
+) -> Result<(), Fault>
+    requires element { IsElement op }
+    requires lawful { HasLawfulValue op }
+    requires live { reader.old.live ≡ true }
+    ensures adds { Gains V.took values.old values.new
+        (AddsAll (scalar op) count reader.old result reader.new) }
+    ensures live { OnOk result (reader.new.live ≡ true) }
+{
+    if is_empty(op) {
         return read_zeros(reader, count, values);
     }
     let mut done = 0;
@@ -151,7 +232,11 @@ fn read_list<S: Source, V: ValueTaker>(
     room: u64,
     element: Option<Op>,
     values: &mut V,
-) -> Result<(), Fault> {
+) -> Result<(), Fault>
+    requires { IfSome element (λ op. IsElement op × HasLawfulValue op) }
+    ensures { Gains V.took values.old values.new
+        (AddsFew (values_of room (last_ops element)) room reader.old result reader.new) }
+{
     let count = read_count(reader, room)?;
     if let Some(element) = element {
         return read_elements(reader, count, element, values);
@@ -161,12 +246,36 @@ fn read_list<S: Source, V: ValueTaker>(
     reader.pad()
 }
 
+/// Whether an operand stands for a list of values.
+#[inline(always)]
+fn is_list(op: Op) -> bool
+    ensures yes { result ≡ true → (op ≡ Array) ⊎ (op ≡ Blob) }
+    ensures no { result ≡ false → (op ≢ Array) × (op ≢ Blob) }
+{
+    matches!(op, Op::Array | Op::Blob)
+}
+
+/// The element of an array that these operands follow, or none behind a blob.
+#[inline(always)]
+fn element_of<O: OpList>(behind: O) -> Option<Op>
+    ensures some { IfSome result (λ op. (others : List Op) × (O.ops_in behind ≡ op ∷ others)) }
+    ensures none { IfNone result (O.ops_in behind ≡ []) }
+{
+    match behind.parted() {
+        Some((element, _)) => Some(element),
+        None => None,
+    }
+}
+
 /// How many operands give one value each. All are in a lawful order.
-fn singles_in<O: OpList>(ops: O) -> u64 {
+fn singles_in<O: OpList>(ops: O) -> u64
+    requires { length (O.ops_in ops) < 2 ^ 64 }
+    ensures { result ≡ singles (O.ops_in ops) }
+{
     let mut left = ops;
     let mut count = 0;
     while let Some((op, rest)) = left.parted() {
-        if let Op::Array | Op::Blob = op {
+        if is_list(op) {
             break;
         }
         count += 1;
@@ -175,27 +284,48 @@ fn singles_in<O: OpList>(ops: O) -> u64 {
     count
 }
 
-/// Reads the values of a record by the operands behind its code, of which the single ones fit into the room.
+/// Reads the values of a record by the operands behind its code, at most `room` of an array or a blob.
 fn read_behind_code<O: OpList, S: Source, V: ValueTaker>(
     reader: &mut BitReader<S>,
     ops: O,
     room: u64,
     values: &mut V,
-) -> Result<(), Fault> {
+) -> Result<(), Fault>
+    requires order { in_order Later (O.ops_in ops) ≡ true }
+    requires lawful { AllByRecursion HasLawfulValue (O.ops_in ops) }
+    requires live { reader.old.live ≡ true }
+    ensures { Gains V.took values.old values.new
+        (AddsFew (values_of room (O.ops_in ops)) (singles (O.ops_in ops) + room) reader.old result reader.new) }
+{
     let mut left = ops;
     while let Some((op, rest)) = left.parted() {
-        if let Op::Array | Op::Blob = op {
-            let element = match rest.parted() {
-                Some((element, _)) => Some(element),
-                None => None,
-            };
-            return read_list(reader, room, element, values);
+        if is_list(op) {
+            return read_list(reader, room, element_of(rest), values);
         }
-        let value = read_scalar(reader, op)?;
-        keep(reader, values, value)?;
+        read_value(reader, op, values)?;
         left = rest;
     }
     Ok(())
+}
+
+/// Reads the code of a record by its operand, and then its values, at most `room` of an array or a blob.
+#[inline(always)]
+fn read_coded<O: OpList, S: Source, V: ValueTaker>(
+    reader: &mut BitReader<S>,
+    code_op: Op,
+    others: O,
+    room: u64,
+    values: &mut V,
+) -> Result<u64, Fault>
+    requires order { in_order Later (O.ops_in others) ≡ true }
+    requires lawful { AllByRecursion HasLawfulValue (code_op ∷ O.ops_in others) }
+    requires live { reader.old.live ≡ true }
+    ensures { Gains V.took values.old values.new (AddsWithin (coded_fields room code_op (O.ops_in others))
+        (singles (O.ops_in others) + room) reader.old result reader.new) }
+{
+    let code = read_scalar(reader, code_op)?;
+    read_behind_code(reader, others, room, values)?;
+    Ok(code)
 }
 
 /// Reads a record by its operands, which are in a lawful order, after its abbreviation id, which began at `first`.
@@ -205,15 +335,28 @@ fn read_by<O: OpList, S: Source, V: ValueTaker>(
     first: u64,
     room: u64,
     values: &mut V,
-) -> Result<u64, Fault> {
+) -> Result<u64, Fault>
+    requires shape { has_shape (O.ops_in ops) ≡ true }
+    requires definable { Definable (O.ops_in ops) }
+    requires live { reader.old.live ≡ true }
+    ensures { Gains V.took values.old values.new
+        (AddsWithin (abbreviated first room (O.ops_in ops)) room reader.old result reader.new) }
+{
     let Some((code_op, others)) = ops.parted() else {
         unreachable!();
     };
     let count = singles_in(others);
     reader.judge(count <= room, Reason::TooManyValues, first)?;
-    let code = read_scalar(reader, code_op)?;
-    read_behind_code(reader, others, room - count, values)?;
-    Ok(code)
+    read_coded(reader, code_op, others, room - count, values)
+}
+
+/// Whether the operands of a definition are in a lawful order.
+#[inline(always)]
+fn is_lawful(layout: Layout) -> bool
+    ensures yes { result ≡ true → layout ≢ Unlawful }
+    ensures no { result ≡ false → layout ≡ Unlawful }
+{
+    !matches!(layout, Layout::Unlawful)
 }
 
 /// An abbreviation id that was read, from 3 on, and its first bit.
@@ -232,18 +375,24 @@ pub fn read_record<S: Source, V: ValueTaker>(
     begun: Begun,
     room: u64,
     values: &mut V,
-) -> Result<u64, Fault> {
+) -> Result<u64, Fault>
+    requires definitions { AreInForce definitions.now }
+    requires id { 3 ≤ begun.id }
+    requires live { reader.old.live ≡ true }
+    ensures { Gains V.took values.old values.new
+        (AddsWithin (entry room begun.first begun.id (all_in definitions.now)) room reader.old result reader.new) }
+{
     let Begun { id, first } = begun;
     if id == 3 {
         return read_plain(reader, room, values);
     }
-    let Some(head) = definitions.head(id) else {
+    let index = (id - 4) as usize;
+    let Some(head) = definitions.head(index) else {
         reader.judge(false, Reason::UndefinedAbbrev, first)?;
         unreachable!();
     };
-    let is_lawful = head.layout != Layout::Unlawful;
-    reader.judge(is_lawful, Reason::AbbrevShape, first)?;
-    read_by(reader, definitions.held(id, head), first, room, values)
+    reader.judge(is_lawful(head.layout), Reason::AbbrevShape, first)?;
+    read_by(reader, definitions.held(index, head), first, room, values)
 }
 
 /// Reads a record that is not abbreviated, after its abbreviation id: gives its values to the value sink and returns its code. If
@@ -253,7 +402,10 @@ fn read_plain<S: Source, V: ValueTaker>(
     reader: &mut BitReader<S>,
     room: u64,
     values: &mut V,
-) -> Result<u64, Fault> {
+) -> Result<u64, Fault>
+    ensures { Gains V.took values.old values.new
+        (AddsWithin (unabbreviated room) room reader.old result reader.new) }
+{
     let code = reader.vbr(6)?;
     let count = read_count(reader, room)?;
     read_elements(reader, count, Op::Vbr(6), values)?;

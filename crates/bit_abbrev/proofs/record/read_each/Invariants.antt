@@ -1,0 +1,11 @@
+use Rattle.std.proofs.Common.{◌≡◌, true}
+use Rattle.bit_grammar.specs.Record.{scalar}
+use Rattle.bit_abbrev.specs.Values.{Gains}
+use Rattle.bit_abbrev.proofs.AddedValues.{SoFar}
+use Rattle.bit_abbrev.proofs.record.read_each.Given as goal
+
+abbrev pub invariant-loop-done : goal.invariant-loop-done
+invariant-loop-done g l = record {
+  live : l.reader.live ≡ true;
+  gains : Gains g.V.ValueTaker.took l.fn.values l.values (SoFar (scalar l.op) l.count l.fn.reader l._done l.reader);
+}
