@@ -4,7 +4,7 @@ use Rattle.std.proofs.Math.ListN.{set}
 use Rattle.std.proofs.Math.Seq.{take-suc-set}
 use borrow.Rule.Slice.PartMut.{put_mid}
 use Rattle.std.proofs.lemmas.Bool.{cases_lt}
-use Rattle.std.proofs.lemmas.List.{append-nil, length-append, length-take-le, take_all}
+use Rattle.std.proofs.lemmas.List.{length-append, length-take-le, take_all}
 use Rattle.std.proofs.lemmas.Slice.{take-put_mid}
 use Rattle.bit_abbrev.specs.Listed.{Lists}
 
@@ -38,11 +38,3 @@ listed_first values cells to h =
         let front : h.front ≡ [] = nothing h.front none in
         (omega (arith, all, within), ap (λ (n : ℕ). take n cells) (sym all) ∙ h.is ∙ ap (λ (vs : List ℕ). vs ++ values) front)
     ]
-
-pub lists_none : (cells : List ℕ) (from : ℕ) → Lists from [] cells from
-lists_none cells from = record {
-  ends = omega arith;
-  front = take from cells;
-  is = sym (append-nil (take from cells));
-}
-

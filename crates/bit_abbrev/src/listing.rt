@@ -79,8 +79,7 @@ impl<'d> Walker<u64> for Listing<'d> {
 
 impl<'d> Visitor<u64> for Listing<'d> {
     ghost use Rattle.std.specs.Prelude.{◌+◌, ◌≤◌, false, length};
-    ghost use Rattle.bit_abbrev.specs.Listed.{Lists};
-    ghost use Rattle.bit_abbrev.proofs.Lists.{lists_none};
+    ghost use Rattle.bit_abbrev.specs.Listed.{Lists, lists_none};
 
     ghost stored = { λ by first from code count done last to. Lists from done last to };
 

@@ -372,9 +372,17 @@ pub fn walk<C, V: Visitor<C>>(
     let index = (id - 4) as usize;
     let head = definitions.head(index)?;
     match head.layout {
-        Layout::Singles => walk_fixed(by, cells, next, definitions.ops(index, head)),
-        Layout::Coded | Layout::List => {
-            walk_apart(by, cells, next, definitions.ops(index, head), head.layout)
+        Layout::Singles => {
+            let ops = definitions.ops(index, head);
+            walk_fixed(by, cells, next, ops)
+        }
+        Layout::Coded => {
+            let ops = definitions.ops(index, head);
+            walk_apart(by, cells, next, ops, Layout::Coded)
+        }
+        Layout::List => {
+            let ops = definitions.ops(index, head);
+            walk_apart(by, cells, next, ops, Layout::List)
         }
         Layout::Odd | Layout::Unlawful => None,
     }
