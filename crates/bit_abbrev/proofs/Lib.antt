@@ -11,7 +11,6 @@ pub mod Taking
 pub mod Operands
 pub mod Shapes
 pub mod ShortOps
-pub mod Layouts
 pub mod Records
 mod Several
 pub mod Covering
@@ -19,7 +18,9 @@ pub mod Grouping
 pub mod PlanParts
 pub mod PassedRecords
 pub mod Singles
-pub mod FewValues
 pub mod Buffered
 pub mod Missing
 pub mod HeldRecords
+pub mod Lists
+pub mod Visits
+pub mod Walks

@@ -1,10 +1,10 @@
 -- What the visitors that count and list keep of records.
-use Rattle.std.proofs.Common.{◌≡◌, ◌≢◌, ℕ, zero, suc, ◌+◌, ◌-◌, ◌<◌, ◌≤◌, Bool, true, List, [], ◌∷◌, ◌++◌, length, take, get_or, Some, slice_get, Result, Ok, Err, eq-eqb, refl, sym, ap, ◌∙◌, subst, arith, append_assoc, inl, inr}
+use Rattle.std.proofs.Common.{◌≡◌, ◌≢◌, ℕ, zero, suc, ◌+◌, ◌-◌, ◌<◌, ◌≤◌, Bool, true, List, [], ◌∷◌, ◌++◌, length, take, get_or, Option, Some, Result, Ok, Err, refl, sym, ap, ◌∙◌, subst, arith, inl, inr}
 use Rattle.std.proofs.Math.ListN.{set}
 use Rattle.std.proofs.Math.Seq.{take-suc-set}
 use Rattle.std.proofs.lemmas.Bool.{cases_lt, lt-ltb, ne_eqb}
-use Rattle.std.proofs.lemmas.List.{append-nil, get_or_past, length-append, length-drop, length-take-le, take_all}
-use Rattle.std.proofs.lemmas.Option.{get_or_from_slice_get}
+use Rattle.std.proofs.lemmas.List.{get_or_past, length-drop}
+use Rattle.std.specs.Prelude.{IfSome}
 use Rattle.bit_grammar.specs.declared.op.Op.{Op}
 use Rattle.bit_grammar.specs.declared.op.Op.TheVariants as operand
 use Rattle.bit_grammar.specs.Blocks.{by_definition, entry}
@@ -21,7 +21,9 @@ use Rattle.bit_fields.proofs.PlainRecords.{repeat_both}
 use Rattle.bit_abbrev.specs.declared.coming.Coming.{Coming}
 use Rattle.bit_abbrev.specs.declared.coming.Here.{Here}
 use Rattle.bit_abbrev.specs.declared.coming.Walked.{Walked}
-use Rattle.bit_abbrev.specs.Plans.{PassesOver}
+use Rattle.bit_abbrev.specs.declared.plan.Passed.{Passed}
+use Rattle.bit_abbrev.specs.declared.plan.Plan.{Plan}
+use Rattle.bit_abbrev.specs.Plans.{IsPlan, PassesOver, PlanOf}
 use Rattle.bit_abbrev.specs.Taking.{HasMany}
 use Rattle.bit_abbrev.specs.Walking.{Storage, StoresAll, StoresMore, Walks}
 use Rattle.bit_abbrev.proofs.Covering.{left_is}
@@ -46,20 +48,41 @@ passed_walks keeps cells rule next walked fields wide fields_are few passes kept
 not_read : {A E : Type 0} (x : A) (y : E) → ◌≡◌ {A = Result A E} (Err y) (Ok x) → ⊥
 not_read x y e = cc
 
--- no record is read by no operands
-none_reads : (first room : ℕ) (a b : BufferedBits) (value : CodeAndValues) → Reads (by_definition first room []) a value b → ⊥
-unfolding by_definition
-none_reads first room a b value seen = not_read _ _ seen
+no_operand : (x : Op) (xs : List Op) → [] ≡ x ∷ xs → ⊥
+no_operand x xs is = cc
 
--- a record by the definition at an index, if there is one
-pub index_reads : (room first id : ℕ) (definitions : List (List Op)) → 4 ≤ id → (a b : BufferedBits) (value : CodeAndValues) → Reads (by_definition first room (get_or definitions (id - 4) [])) a value b → Reads (entry room first id definitions) a value b
+no_plan : (plan : Plan) → PlanOf [] plan → ⊥
+no_plan plan p = no_operand _ _ p.all
+
+-- no record is read by operands in no lawful order
+shapeless : (first room : ℕ) (a b : BufferedBits) (value : CodeAndValues) → Reads (by_definition first room (operand.Array ∷ [])) a value b → ⊥
+unfolding by_definition
+shapeless first room a b value seen = not_read _ _ seen
+
+index_reads : (room first id : ℕ) (definitions : List (List Op)) → 4 ≤ id → id - 4 < length definitions → (a b : BufferedBits) (value : CodeAndValues) → Reads (by_definition first room (get_or definitions (id - 4) [])) a value b → Reads (entry room first id definitions) a value b
 unfolding entry
-index_reads room first id definitions least a b value seen =
+index_reads room first id definitions least within a b value seen =
     let other : id ≢ 3 = λ three. absurd (omega (arith, least, three)) in
+    let there = lt-ltb (id - 4) (length definitions) within in
+    rw (ne_eqb id 3 other, there, seen) refl
+
+-- a record that the plan at an index passes over
+pub planned_entry : (room first id : ℕ) (definitions : List (List Op)) (plan : Plan) (a : BufferedBits) (passed : Passed) → 4 ≤ id → ((ops : List Op) → IsPlan ops plan → PassesOver (by_definition first room ops) a passed) → IsPlan (get_or definitions (id - 4) []) plan → PassesOver (entry room first id definitions) a passed
+planned_entry room first id definitions plan a passed least passes is =
     elim (cases_lt (id - 4) (length definitions)) [
-      | inl within ↦ let there = lt-ltb (id - 4) (length definitions) within in rw (ne_eqb id 3 other, there, seen) refl
-      | inr past ↦ absurd (none_reads first room a b value (subst (λ (ops : List Op). Reads (by_definition first room ops) a value b) (get_or_past definitions (id - 4) [] past) seen))
+      | inl within ↦ let p = passes (get_or definitions (id - 4) []) is in (p.0, (p.1.0, p.1.1, index_reads room first id definitions least within a (beyond a passed.len) (record { code = passed.code; values = p.1.0 }) p.1.2))
+      | inr past ↦
+        let none : IsPlan [] plan = subst (λ (ops : List Op). IsPlan ops plan) (get_or_past definitions (id - 4) [] past) is in
+        let p = passes (operand.Array ∷ []) (λ planned. absurd (no_plan plan (none planned))) in
+        absurd (shapeless first room a (beyond a passed.len) (record { code = passed.code; values = p.1.0 }) p.1.2)
     ]
+
+pub plain_over : (room first : ℕ) (definitions : List (List Op)) (a : BufferedBits) (passed : Passed) → PassesOver (unabbreviated room) a passed → PassesOver (entry room first 3 definitions) a passed
+unfolding entry
+plain_over room first definitions a passed p = p
+
+pub of_passed : (P : Passed → Type 0) (result : Option Passed) (passed : Passed) → result ≡ Some passed → IfSome result P → P passed
+of_passed P result passed is h = subst (λ (r : Option Passed). IfSome r P) is h
 
 -- ---- values that are passed over
 

@@ -6,7 +6,6 @@ pub mod Heads
 pub mod HeldLists
 pub mod HeldOps
 pub mod InForce
-pub mod Layouts
 pub mod Operands
 pub mod Plans
 pub mod Ready
@@ -14,3 +13,5 @@ pub mod Scalars
 pub mod ShortOps
 pub mod Table
 pub mod Values
+pub mod Listed
+pub mod Walking
