@@ -12,7 +12,6 @@ pub mod Covering
 pub mod PlanPlaces
 pub mod PassedRecords
 pub mod Singles
-pub mod FewValues
 pub mod Buffered
 mod PlacesHeld
 mod PlaceLayouts
@@ -27,3 +26,6 @@ mod Growing
 mod PlacedDefinitions
 mod CompactReading
 pub mod RecordReading
+pub mod Lists
+pub mod Visits
+pub mod Walks

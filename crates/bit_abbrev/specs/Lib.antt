@@ -18,3 +18,5 @@ pub mod ShortOps
 pub mod Table
 pub mod Taking
 pub mod Values
+pub mod Listed
+pub mod Walking
