@@ -33,8 +33,8 @@ listed_first values cells to h =
     elim (cases_lt (length cells) to) [
       | inl past ↦ absurd (omega (arith, past, all, ap length (sym (take_all to cells (omega (arith, past))) ∙ h.is), length-append h.front values))
       | inr within ↦
-        let many : length (take to cells) ≡ to = length-take-le to cells (omega (arith, within)) in
-        let none : length h.front ≡ 0 = omega (arith, all, many, ap length h.is, length-append h.front values) in
-        let front : h.front ≡ [] = nothing h.front none in
-        (omega (arith, all, within), ap (λ (n : ℕ). take n cells) (sym all) ∙ h.is ∙ ap (λ (vs : List ℕ). vs ++ values) front)
+          let many : length (take to cells) ≡ to = length-take-le to cells (omega (arith, within)) in
+          let none : length h.front ≡ 0 = omega (arith, all, many, ap length h.is, length-append h.front values) in
+          let front : h.front ≡ [] = nothing h.front none in
+          (omega (arith, all, within), ap (λ (n : ℕ). take n cells) (sym all) ∙ h.is ∙ ap (λ (vs : List ℕ). vs ++ values) front)
     ]

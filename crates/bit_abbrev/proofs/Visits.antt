@@ -72,9 +72,9 @@ planned_entry room first id definitions plan a passed least passes is =
     elim (cases_lt (id - 4) (length definitions)) [
       | inl within ↦ let p = passes (get_or definitions (id - 4) []) is in (p.0, (p.1.0, p.1.1, index_reads room first id definitions least within a (beyond a passed.len) (record { code = passed.code; values = p.1.0 }) p.1.2))
       | inr past ↦
-        let none : IsPlan [] plan = subst (λ (ops : List Op). IsPlan ops plan) (get_or_past definitions (id - 4) [] past) is in
-        let p = passes (operand.Array ∷ []) (λ planned. absurd (no_plan plan (none planned))) in
-        absurd (shapeless first room a (beyond a passed.len) (record { code = passed.code; values = p.1.0 }) p.1.2)
+          let none : IsPlan [] plan = subst (λ (ops : List Op). IsPlan ops plan) (get_or_past definitions (id - 4) [] past) is in
+          let p = passes (operand.Array ∷ []) (λ planned. absurd (no_plan plan (none planned))) in
+          absurd (shapeless first room a (beyond a passed.len) (record { code = passed.code; values = p.1.0 }) p.1.2)
     ]
 
 pub plain_over : (room first : ℕ) (definitions : List (List Op)) (a : BufferedBits) (passed : Passed) → PassesOver (unabbreviated room) a passed → PassesOver (entry room first 3 definitions) a passed

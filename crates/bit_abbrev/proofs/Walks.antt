@@ -125,7 +125,7 @@ list_reads first room code number places op others element start a b c d values 
     let tail : List HeldOp = Array ∷ element ∷ [] in
     let behind : ops_of tail ≡ operand.Array ∷ op_held element ∷ [] = ap (λ (ops : List Op). operand.Array ∷ ops) (held_one element [] parts.single) in
     let all : ops_of places ≡ op_held op ∷ (map op_held others ++ operand.Array ∷ op_held element ∷ []) = ap ops_of parts.all ∙ held_one op (others ++ tail) parts.head
-        ∙ ap (λ (ops : List Op). op_held op ∷ ops) (held_front others tail parts.are ∙ ap (λ (ops : List Op). map op_held others ++ ops) behind) in
+    ∙ ap (λ (ops : List Op). op_held op ∷ ops) (held_front others tail parts.are ∙ ap (λ (ops : List Op). map op_held others ++ ops) behind) in
     list_read first room code number (ops_of places) (op_held op) others (op_held element) start a b c d values more all parts.shape parts.are few head h count elements
 
 pub scalars_count : (places : List HeldOp) (a b : BufferedBits) (values : List ℕ) → HasScalars (map op_held places) a values b → length values ≡ length places

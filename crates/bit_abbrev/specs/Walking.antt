@@ -54,7 +54,8 @@ SparesBegun {C} stored spared old at new = (first : List C) (from code count : �
     → stored first from code count done old at → spared first from new
 
 -- So many values of an operand were read and stored.
-pub record StoresAll {C : Type 0} (stored : Storage C) (op : Op) (count : ℕ) (here : Here) (old : List C) (next : Here) (new : List C) : Type 0 where
+pub record StoresAll {C : Type 0} (stored : Storage C) (op : Op) (count : ℕ) (here : Here) (old : List C)
+    (next : Here) (new : List C) : Type 0 where
   pub values : List ℕ
   pub many : length values ≡ count
   pub len : ℕ

@@ -56,13 +56,18 @@ pub struct Walked {
 impl Walked {
     /// A record whose fields are these, up to where the walk is.
     #[inline(always)]
-    pub(crate) fn over(fields: PlacedBits<'_>, here: Here<'_>, code: u64, count: u64) -> Option<Walked>
+    pub(crate) fn over(
+        fields: PlacedBits<'_>,
+        here: Here<'_>,
+        code: u64,
+        count: u64,
+    ) -> Option<Walked>
         requires { (placed fields).position ≤ (placed here.bits).position }
         ensures { IfSome result (λ walked. walked ≡ record {
-            at = here.entry.at;
-            len = (placed here.entry.bits).position - (placed fields.entry).position;
-            code = code;
-            count = count;
+          at = here.entry.at;
+          len = (placed here.entry.bits).position - (placed fields.entry).position;
+          code = code;
+          count = count;
         }) }
     {
         Some(Walked {

@@ -85,7 +85,8 @@ pub trait Walker<C>: Copy {
 
 /// What is done with the values of a record. A visitor stores into cells, from a place on, and gives the next place. It has no state.
 pub trait Visitor<C>: Copy {
-    ghost use Rattle.std.specs.Prelude.{◌≡◌, ◌+◌, ◌^◌, ◌<◌, ◌≤◌, ◌∷◌, ℕ, Bool, true, false, List, [], length, IfSome, IfNone, MatchOption};
+    ghost use Rattle.std.specs.Prelude.{◌≡◌, ◌+◌, ◌^◌, ◌<◌, ◌≤◌, ◌∷◌, ℕ, Bool, true, false, List, []};
+    ghost use Rattle.std.specs.Prelude.{length, IfSome, IfNone, MatchOption};
     ghost use Rattle.bit_grammar.specs.declared.op.Op.TheVariants.{Vbr};
     ghost use Rattle.bit_fields.specs.PlacedView.{placed};
     ghost use Rattle.bit_abbrev.specs.PlaceLayouts.{IsSinglePlace};
@@ -166,8 +167,8 @@ pub trait Visitor<C>: Copy {
     ghost begins: { fronted ≡ false → (by : Self) (first : List C) (from code count : ℕ) → stored by first from code count [] first from };
 
     // and with any code and count.
-    ghost other: { fronted ≡ false → (by : Self) (first : List C) (from code count other_code other_count : ℕ) (done : List ℕ) (last : List C) (to : ℕ)
-        → stored by first from code count done last to → stored by first from other_code other_count done last to };
+    ghost other: { fronted ≡ false → (by : Self) (first : List C) (from code count other_code other_count : ℕ) (done : List ℕ)
+        (last : List C) (to : ℕ) → stored by first from code count done last to → stored by first from other_code other_count done last to };
 
     // Then room for both is the same.
     ghost as_roomy: { fronted ≡ false → (by : Self) (cells : List C) (at more : ℕ) → roomy by cells at more → room by cells at more };

@@ -135,7 +135,11 @@ fn walk_elements<'a, C, V: Visitor<C>>(
 
 /// Walks over a record that is not abbreviated, after its id.
 #[inline(always)]
-pub(crate) fn walk_plain<C, V: Visitor<C>>(by: V, cells: &mut [C], next: Coming<'_>) -> Option<Walked>
+pub(crate) fn walk_plain<C, V: Visitor<C>>(
+    by: V,
+    cells: &mut [C],
+    next: Coming<'_>,
+) -> Option<Walked>
     requires width { next.width ≤ 32 }
     requires there { 2240 ≤ length (placed next.bits).bits }
     requires room { V.roomy by cells.old next.at 31 }

@@ -1,5 +1,5 @@
 use Rattle.std.proofs.Common.{ℕ, ◌+◌, ◌-◌, ◌≤◌, List, [], length, get_or, ◌∙◌, ap, subst, sym, arith}
-use Rattle.std.proofs.lemmas.Option.{IfSome_then, get_or_from_slice_get, slice_get_within}
+use Rattle.std.proofs.lemmas.Option.{IfSome_then}
 use Rattle.bit_grammar.specs.declared.op.Op.{Op}
 use Rattle.bit_grammar.specs.Blocks.{by_definition, entry}
 use Rattle.bit_fields.specs.Buffered.{beyond}
@@ -17,7 +17,8 @@ returns-clause-walks c = λ first definitions knows.
     let plan : Plan = c.in_ok-plan.plan.now in
     let plans : List Plan = c.args.self.plans.now in
     let at : ℕ = c.args.id - 4 in
-    let is : IsPlan (get_or definitions at []) plan = subst (IsPlan (get_or definitions at [])) (get_or_from_slice_get plans at plan plan c.in_ok-plan.ensures) (knows at plan (slice_get_within plans at plan c.in_ok-plan.ensures)) in
+    let found = c.in_ok-plan.ensures.lookup.3 in
+    let is : IsPlan (get_or definitions at []) plan = subst (IsPlan (get_or definitions at [])) (sym (found.1 plan)) (knows at plan found.0) in
     IfSome_then c.of.result c.of.ensures (λ walked h.
     let passed : Passed = record { len = walked.len; code = walked.code; count = walked.count } in
     let over = of_passed (λ p. (first : ℕ) (ops : List Op) → IsPlan ops plan → p.count ≤ n.room → PassesOver (by_definition first n.room ops) fields p) c.pass.result passed h.0 c.pass.ensures.passes in
