@@ -28,6 +28,7 @@ use std::marker::Model;
 #[derive(Drop)]
 pub struct EventFinder<S: Source, V: ValueKeeper> {
     alloc: Global,
+    limits: Limits,
     head: Head,
     reader: BitReader<S>,
     machine: Machine,
@@ -44,12 +45,14 @@ pub struct EventFinder<S: Source, V: ValueKeeper> {
 }
 
 impl<S: Source, V: ValueKeeper> Model for EventFinder<S, V> {
+    ghost use Rattle.bit_events.specs.Events.{coming_of, IsEvents};
+
     ghost Value = { Coming };
 
-    ghost view = { λ e. coming_of e.over e.machine.limits e.head e.machine (V.kept e.values.taker) e.found
+    ghost view = { λ e. coming_of e.over e.limits e.head e.machine (V.kept e.values.taker) e.found e.made
         e.reached e.reader };
 
-    ghost invariant = { λ e. IsEvents e.over e.machine.limits e.machine e.found e.reached e.reader };
+    ghost invariant = { λ e. IsEvents e.over e.limits e.machine e.found e.reached e.reader };
 }
 
 impl<S: Source, V: ValueKeeper> EventFinder<S, V> {
@@ -71,6 +74,7 @@ impl<S: Source, V: ValueKeeper> EventFinder<S, V> {
         let reached = reader.position();
         Ok(EventFinder {
             alloc,
+            limits,
             head,
             reader,
             machine: Machine::new(alloc, limits),
@@ -120,30 +124,16 @@ impl<S: Source, V: ValueKeeper> EventFinder<S, V> {
         if !self.reader.is_live() {
             return Err(Fault::Failed);
         }
-        self.found = self.machine.next(&mut self.reader, &mut self.values)?;
-        if let Some(Step::Define { .. }) = self.found {
-            self.make()?;
-        }
+        self.found = self.machine.next_lent(
+            self.alloc,
+            &mut self.reader,
+            &mut self.values,
+            &mut self.made,
+        )?;
         // Positions are below 2^64 and rise, so the events end.
         self.reached = self.reader.position();
         self.over = self.found.is_none();
         Ok(())
-    }
-
-    /// Makes the abbreviation of the definition that was found.
-    #[cold]
-    #[inline(never)]
-    fn make(&mut self) -> Result<(), Fault> {
-        let Some(ops) = self.machine.newest() else {
-            unreachable!();
-        };
-        match Abbrev::of_held(self.alloc, ops) {
-            Ok(made) => {
-                self.made = Some(made);
-                Ok(())
-            }
-            Err(_) => Err(self.reader.fail(Fault::Memory)),
-        }
     }
 
     /// Gathers all remaining events, as `fold` does, with values of their own.
