@@ -36,6 +36,7 @@ use Rattle.bit_events.specs.declared.machine.Step.TheVariants as found
 use Rattle.bit_events.specs.Coming.{held_after}
 use Rattle.bit_events.specs.MachineView.{frames_shown, machine_shown, marks_of, newest, open_in, definition_of, step_shown, step_lent, IsDefine, IsMachine, KeepsValues, HoldsDefinition, LeavesMachine, Unchanged}
 use Rattle.bit_events.proofs.Machines.{unchanged}
+use Rattle.bit_events.proofs.Widths.{wide}
 use Rattle.bit_events.proofs.Stepping.{leaves_later, none_shown, shown_none}
 use Rattle.bit_events.specs.Coming.{over as over_stage}
 use Rattle.bit_events.specs.Coming.{EndsStream, failed, Goes, GivesEvent, EndsEvents, BreaksOff, StopsEvents, event_before, end_at, end_by, told_of}
@@ -44,15 +45,7 @@ use Rattle.bit_events.specs.Events.{stage_of, coming_of, Over, Shuts, Begun, Dec
 use Rattle.bit_events.proofs.Behind.{step_behind}
 use Rattle.bit_events.proofs.Beginnings.{outlook_begun, outlook_declined}
 
--- ---- open blocks
-
-wide_in : (made : Table) (blocks : List (List (List Op))) (frames : List Frame) → AreWide (frames_in made blocks frames)
-wide_in made blocks [] = tt
-wide_in made blocks (f ∷ outer) = (f.head.least, wide_in made (drop 1 blocks) outer)
-
--- the abbreviation ids of each open block have a width
-wide : (m : Machine) → AreWide (frames_shown m)
-wide m = wide_in (table_in m.definitions.made) (blocks_of m.definitions (marks_of m)) (open_in m)
+-- ---- the remaining events, and whether some are left
 
 -- the events have not ended
 goes_on : (frames : List machine.Frame) (r : List Bool) → (frames ≡ [] → 0 < length r) → is_done frames r ≡ false
@@ -326,7 +319,7 @@ kept_ends is_over now_over limits head m n vs ws found was made place there a b 
       pays = pays_like a b c like finds.stops.goes_on;
       head = refl;
       depth = finds.outside;
-      none_open = ap vec_len finds.same.frames ∙ finds.outside;
+      none_open = finds.same.frames ∙ finds.outside;
       told = λ tells. (finds.told tells ∙ ap (λ (p : ℕ). ([], accepted p)) (sym (is_there ∙ here)), refl);
       none = λ _ tells. rw like.incoming (finds.none tells);
     })

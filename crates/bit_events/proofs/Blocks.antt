@@ -199,10 +199,10 @@ some_unchanged gathered limits m r g n k c h same all = record {
   live = all.live;
   pays = all.pays;
   forward = all.forward;
-  aligned = λ none. all.aligned (ap vec_len (sym same.frames) ∙ none);
+  aligned = λ none. all.aligned (sym same.frames ∙ none);
   told = λ tells. all.told tells ∙ ap (λ (x : machine.Machine). (let told = told_of limits c.extent x c.position c.left in (all.events ++ told.0, told.1))) (sym same.shown);
   leads = record { bits = all.leads.bits; leads = subst (λ (x : machine.Machine). Leads limits (machine_shown m) r.position all.leads.bits all.events x) (sym same.shown) all.leads.leads; position = all.leads.position; end = all.leads.end; limit = all.leads.limit };
-  gathers = λ first done was count. (let both = all.gathers first done was count in (both.0, both.1 ∙ ap vec_len (sym same.frames)));
+  gathers = λ first done was count. (let both = all.gathers first done was count in (both.0, both.1 ∙ sym same.frames));
 }
 
 pub on_unchanged : {G : Type 0} (gathered : G → List Event → G → Type 0) (limits : Limits) (m : Machine) (a : BufferedBits) (g : G) (n k : Machine) (b : BufferedBits) (h : G) → GathersOn gathered limits m a g n b h → Unchanged n k → GathersOn gathered limits m a g k b h

@@ -86,8 +86,8 @@ both_unchanged m k n p q = record { sound = q.sound; frames = q.frames ∙ p.fra
 
 leaves_same : (deepest : ℕ) (m k : Machine) (a : Reader) (event : Event) (n : Machine) (b : Reader) → Unchanged m k → LeavesMachine deepest k a event n b → LeavesMachine deepest m a event n b
 leaves_same deepest m k a event n b same left = record {
-  stands = subst (λ (v : _). MayStand deepest event (vec_len v)) same.frames left.stands;
-  opens = left.opens ∙ ap (λ (v : _). open_after event (vec_len v)) same.frames;
+  stands = subst (MayStand deepest event) same.frames left.stands;
+  opens = left.opens ∙ ap (open_after event) same.frames;
   forward = left.forward;
   aligned = left.aligned;
   holds = left.holds;
@@ -98,8 +98,8 @@ leaves_same deepest m k a event n b same left = record {
 pub next_looked : (m k : Machine) (r s : Reader) (list : List ℕ) (result : Result (Option Step) Fault) (n : Machine) (c : Reader) → Unchanged m k → Stays r s → FindsNext k.limits k s list result n c → FindsNext m.limits m r list result n c
 next_looked m k r s list result n c same stays finds = go result (subst (λ (limits : Limits). FindsNext limits k s list result n c) same.limits finds)
   where
-    event : (event : Event) → FindsEvent m.limits k s event n c → FindsEvent m.limits m r event n c
-    event event f = record {
+    of_event : (event : Event) → FindsEvent m.limits k s event n c → FindsEvent m.limits m r event n c
+    of_event event f = record {
       was_live = stays.was_live;
       live = f.live;
       pays = pays_both r s c stays.goes_on f.pays;
@@ -109,26 +109,26 @@ next_looked m k r s list result n c same stays finds = go result (subst (λ (lim
       leads = leads_behind m.limits m n (event ∷ []) r s c stays (leads_same m.limits m k n s c (event ∷ []) same f.leads);
     }
 
-    fault : (fault : Fault) → FindsFault m.limits k s fault c → FindsFault m.limits m r fault c
-    fault (Refused reason bit) f = (stops_after r s c stays f.0, λ tells. told_same m.limits m k r s same stays tells ∙ f.1 (stays.goes_on.tells tells))
-    fault Read f = loses_after r s c stays f
-    fault Memory f = stops_after r s c stays f
-    fault Failed f = absurd f
-    fault Write f = f
-    fault OutputTooLong f = f
+    of_fault : (fault : Fault) → FindsFault m.limits k s fault c → FindsFault m.limits m r fault c
+    of_fault (Refused reason bit) f = (stops_after r s c stays f.0, λ tells. told_same m.limits m k r s same stays tells ∙ f.1 (stays.goes_on.tells tells))
+    of_fault Read f = loses_after r s c stays f
+    of_fault Memory f = stops_after r s c stays f
+    of_fault Failed f = absurd f
+    of_fault Write f = f
+    of_fault OutputTooLong f = f
 
     go : (result : Result (Option Step) Fault) → FindsNext m.limits k s list result n c → FindsNext m.limits m r list result n c
-    go (Ok (Some found)) f = (event (step_shown n list found) f.0, omega (arith, f.1, stays.position))
+    go (Ok (Some found)) f = (of_event (step_shown n list found) f.0, omega (arith, f.1, stays.position))
     go (Ok None) f = record {
       stops = stops_after r s c stays f.stops;
       position = f.position ∙ stays.position;
-      outside = ap vec_len (sym same.frames) ∙ f.outside;
+      outside = sym same.frames ∙ f.outside;
       ends = ends_behind r s stays f.ends;
       same = both_unchanged m k n same f.same;
       told = λ tells. told_same m.limits m k r s same stays tells ∙ f.told (stays.goes_on.tells tells) ∙ ap (λ (p : ℕ). ([], accepted p)) stays.position;
       none = λ tells. f.none (stays.goes_on.tells tells);
     }
-    go (Err e) f = fault e f
+    go (Err e) f = of_fault e f
 
 -- a call that ran out of memory after bits were looked at
 pub looked_lost : (r s : Reader) → Stays r s → StopsReading r (failed_reader s)

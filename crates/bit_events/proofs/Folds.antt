@@ -233,7 +233,7 @@ none_found gathered fails limits m a g OutputTooLong b h = h
 pub none_left : {G : Type 0} (gathered : G → List Event → G → Type 0) (limits : Limits) (m : Machine) (a : Reader) (g : G) (n : Machine) (b : Reader) → FindsEnd limits m a n b → GathersAll gathered limits m a g n b g
 none_left gathered limits m a g n b finds = record {
   events = [];
-  closed = ap vec_len finds.same.frames ∙ finds.outside;
+  closed = finds.same.frames ∙ finds.outside;
   stopped = finds.stops.failed;
   pays = finds.stops.goes_on;
   told = λ tells. finds.told tells ∙ ap (λ (p : ℕ). ([], accepted p)) (sym finds.position);

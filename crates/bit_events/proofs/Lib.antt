@@ -24,3 +24,5 @@ pub mod Rooms
 pub mod PlacedSteps
 pub mod Finding
 pub mod Definables
+pub mod LookedAt
+pub mod Widths

@@ -93,12 +93,27 @@ alike_unchanged m n sound frames limits used alike =
     let is : open_in n ≡ open_in m = ap (λ (v : _). inner_first v.items) frames in
     record {
       sound = sound_of n (open_in m) is (alike.stands (marks_of m) sound.stands) sound.outer (λ none id. alike.made id ∙ sound.none_made none id);
-      frames = frames;
+      frames = ap vec_len frames;
       limits = limits;
       shown = seen_of n (open_in m) is ∙ same_seen m.definitions n.definitions (open_in m) n.used (alike.blocks (marks_of m)) alike.shared alike.made ∙ ap (seen m.definitions (open_in m)) used;
     }
 
+pub unchanged_by : (m n : Machine) → IsMachine m → open_in n ≡ open_in m → n.definitions ≡ m.definitions → n.limits ≡ m.limits → n.used ≡ m.used → vec_len n.frames ≡ vec_len m.frames → Unchanged m n
+unchanged_by m n sound is definitions limits used count = record {
+  sound = sound_of n (open_in m) is (subst (λ (d : Definitions). Stands d (marks_of m)) (sym definitions) sound.stands) sound.outer (λ none id. subst (λ (d : Definitions). table_in d.made id ≡ []) (sym definitions) (sound.none_made none id));
+  frames = count;
+  limits = limits;
+  shown = seen_of n (open_in m) is ∙ ap (λ (d : Definitions). seen d (open_in m) n.used) definitions ∙ ap (seen m.definitions (open_in m)) used;
+}
+
 -- ---- how the innermost block is told
+
+not_true : (b : Bool) → not b ≡ true → b ≡ false
+not_true false e = refl
+not_true true e = absurd cc
+
+pub info_of : (m : Machine) (f : Frame) (others : List Frame) → open_in m ≡ f ∷ others → is_info (open_in m) ≡ true → is_itself f.describes ≡ false
+info_of m f others is info = not_true (is_itself f.describes) (sym (ap is_info is) ∙ info)
 
 not-not : (b : Bool) → b ≡ not (not b)
 not-not true = refl

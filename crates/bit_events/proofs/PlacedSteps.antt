@@ -1,21 +1,26 @@
 -- Steps that are found in bits that are there.
 use Rattle.std.proofs.Common.{◌≡◌, ℕ, ◌+◌, ◌-◌, ◌%◌, ◌<◌, ◌≤◌, Bool, true, false, not, List, [], ◌∷◌, length, vec_len, is_none, Option, Some, None, Result, Ok, Err, refl, sym, ap, subst, ◌∙◌, arith, ltb}
-use Rattle.std.specs.Prelude.{IfNone, IfSome, IsNone, unwrap_or}
+use Rattle.std.specs.Prelude.{IfNone, IfOk, IfSome, IsNone, unwrap_or}
+use Rattle.std.specs.declared.alloc.AllocError.{AllocError}
+use Rattle.bit_grammar.proofs.Events.Steps.{step_on}
+use Rattle.std.specs.List.{AllByRecursion}
 use Rattle.std.proofs.lemmas.Bool.{lt-ltb}
+use Rattle.bit_grammar.specs.FormatDefinition.{Definable}
 use Rattle.bit_grammar.specs.declared.op.Op.{Op}
 use Rattle.bit_grammar.specs.declared.shapes.Shapes.{Shapes}
 use Rattle.bit_grammar.specs.declared.reason.Reason.TheVariants.{TooDeep, TopLevel, NestedInBlockInfo, NoBlockSet}
 use Rattle.bit_grammar.specs.Grammar.{Grammar, at, test}
 use Rattle.bit_grammar.specs.Definition.{definition}
 use Rattle.bit_grammar.specs.Fields.{fixed}
-use Rattle.bit_grammar.specs.Terms.{BlockInfo, CodeAndValues}
+use Rattle.bit_grammar.specs.Marks.{DefinitionMark}
+use Rattle.bit_grammar.specs.Terms.{BlockInfo, CodeAndValues, Table}
 use Rattle.bit_grammar.specs.Blocks as blocks
 use Rattle.bit_grammar.specs.Blocks.{Limits, Scope, block_head, end_of_block, enter, leave, may_define, defined, define, entry}
 use Rattle.bit_grammar.specs.Machine as machine
 use Rattle.bit_grammar.specs.Machine.{Event, enters, leaves, defines, inside, open_block, scope_of, step}
 use Rattle.bit_fields.specs.Buffered.{BufferedBits, Reads, beyond, reader_at}
 use Rattle.bit_fields.specs.Reader.{Reader, Took}
-use Rattle.bit_fields.proofs.BufferedReads.{reads_forward, reads_took, took_reads}
+use Rattle.bit_fields.proofs.BufferedReads.{reads_forward, reads_passed, reads_took, took_reads}
 use Rattle.bit_events.specs.declared.event.RecordHead.{RecordHead}
 use Rattle.bit_events.specs.declared.frame.Describes.{Describes}
 use Rattle.bit_events.specs.declared.frame.Describes.TheVariants.{Itself, NoneYet, Block}
@@ -30,13 +35,16 @@ use Rattle.bit_abbrev.specs.PlacedDefinitions.{AddsPlaced}
 use Rattle.bit_events.specs.FrameView.{described_of, info_shown, inner_first, is_itself}
 use Rattle.bit_events.specs.HeadView.{head_shown}
 use Rattle.bit_events.specs.MachineView.{bit_after, frames_shown, handed_shown, is_info, machine_shown, newest, open_in, definition_of, record_of, step_shown, define_rule, end_rule, record_rule, InBlock, InPlain, IsMachine, LeavesMachine, ReadsEntry, Unchanged}
-use Rattle.bit_events.specs.Runs.{FindsHere, NotesHere, StepsHere}
+use Rattle.bit_abbrev.specs.Taking.{GivesRecord}
+use Rattle.bit_abbrev.specs.Values.{Gains, Has}
+use Rattle.bit_events.specs.Runs.{AddsBehind, FindsHere, NotesHere, StepsHere}
 use Rattle.bit_events.proofs.Framing.{judged}
 use Rattle.bit_events.proofs.Framing as framing
-use Rattle.bit_events.proofs.Machines.{behind_first, defined_block, defined_sound, itself, not_is, seen, seen_of, stands_with}
+use Rattle.bit_events.proofs.Machines.{behind_first, defined_block, defined_sound, described_block, described_sound, itself, more_used, not_is, seen, seen_of, stands_with, unchanged}
 use Rattle.bit_events.proofs.Rooms.{entry_room}
+use Rattle.bit_events.proofs.Widths.{wide}
 use Rattle.bit_events.proofs.Stepping as stepping
-use Rattle.bit_events.proofs.Stepping.{inner_of, leaves_later, length-frames, none_shown, shown_none, some_shown, other_than, open_took, end_took, top_opens, nested_opens, in_then, after_end, after_nested, after_define, after_record}
+use Rattle.bit_events.proofs.Stepping.{first_shown, inner_of, leaves_later, length-frames, none_shown, shown_none, some_shown, other_than, open_took, end_took, top_opens, nested_opens, in_then, after_end, after_nested, after_define, after_record}
 
 -- ---- the innermost block
 
@@ -63,14 +71,14 @@ pub plain_in : (m : Machine) → InPlain m → InBlock m (λ f outer. f.info ≡
 plain_in m plain f outer split = none_is f.info (plain_told m true (sym (ap not plain)) f outer split)
 
 pub plain_if : (m : Machine) (plain : Bool) → plain ≡ not (is_info (open_in m)) → plain ≡ true → InPlain m
-plain_if m plain is yes = not_is_true (is_info (open_in m)) (sym is ∙ yes)
+plain_if m plain is holds = not_is_true (is_info (open_in m)) (sym is ∙ holds)
   where
     not_is_true : (b : Bool) → not b ≡ true → b ≡ false
     not_is_true false e = refl
     not_is_true true e = absurd cc
 
 pub info_if : (m : Machine) (plain : Bool) → plain ≡ not (is_info (open_in m)) → plain ≡ false → is_info (open_in m) ≡ true
-info_if m plain is no = not_is (is_info (open_in m)) (sym is ∙ no)
+info_if m plain is fails = not_is (is_info (open_in m)) (sym is ∙ fails)
 
 -- ---- a step by a part of its rule
 
@@ -115,7 +123,7 @@ defines_here deepest shapes m shown outer first a ops b n some frames may reads 
     scope : Scope
     scope = scope_of shown (handed_shown m)
 
-    mark : _
+    mark : DefinitionMark
     mark = record { ops = ops; first = first; after = b.position }
 
 -- a definition was added to those of the innermost block, or of the block that it describes
@@ -286,3 +294,93 @@ notes_here limits m n f outer most a read list info split here fits describes ma
 
     leaves : LeavesMachine limits.depth m (reader_at a) event n (reader_at here.end)
     leaves = record { stands = some; opens = count; forward = omega (arith, on, reads_forward (fixed f.head.width) a read.«abbrev» b here.id); aligned = λ none. absurd (omega (arith, some, none, count)); holds = tt; limits = same; sound = sound }
+
+-- a record that was taken in place
+pub entry_taken : {V : Type 0} (took : V → List ℕ → Type 0) (v w : V) (most : ℕ) (f : machine.Frame) (a fields : BufferedBits) (definitions : List (List Op)) (read : RecordHead) (gives : GivesRecord took v w (λ first. entry most first read.«abbrev» definitions) most fields read.code read.after)
+    → 3 ≤ read.«abbrev» → read.first ≡ a.position → Reads (fixed f.head.width) a read.«abbrev» (beyond a f.head.width) → fields ≡ beyond a f.head.width → definitions ≡ f.definitions → AllByRecursion Definable definitions → ReadsEntry most f a read gives.values
+entry_taken took v w most f a fields definitions read gives is_record begins id behind same definable = record {
+  record_id = is_record;
+  begins = begins;
+  id = id;
+  few = gives.few;
+  definable = subst (AllByRecursion Definable) same definable;
+  end = beyond fields (read.after - fields.position);
+  after = omega (arith, gives.forward);
+  record_read = subst (λ (d : List (List Op)). Reads (entry most read.first read.«abbrev» d) (beyond a f.head.width) (record { code = read.code; values = gives.values }) (beyond fields (read.after - fields.position))) same
+      (subst (λ (x : BufferedBits). Reads (entry most read.first read.«abbrev» definitions) x (record { code = read.code; values = gives.values }) (beyond fields (read.after - fields.position))) behind (gives.reads read.first));
+}
+
+-- it is a step of a plain block
+plain_noted : (m : Machine) (most : ℕ) (a : BufferedBits) (read : RecordHead) (list : List ℕ) → IsMachine m → InPlain m → most ≤ m.limits.values - m.used → 0 < vec_len m.frames → InBlock m (λ f outer. ReadsEntry most f a read list) → NotesHere m.limits m a read list (record m { used = m.used + length list })
+plain_noted m most a read list sound plain fits some reads =
+    let one = first_shown m some in
+    let f = one.f in
+    let entry_read = reads f one.outer one.split in
+    let none : f.info ≡ None = plain_in m plain f one.outer one.split in
+    let e : CodeAndValues = record { code = read.code; values = list } in
+    let same : f ≡ record f { info = None } = ap (λ (i : Option BlockInfo). record f { info = i }) none in
+    notes_here m.limits m (record m { used = m.used + length list }) f one.outer most a read list None one.split entry_read (omega (arith, fits, entry_read.few))
+    (λ r live. subst (λ (i : Option BlockInfo). Took (blocks.describe i read.first e) r None r) (sym none) (framing.none_described read.first e r live))
+    (ap (λ (frames : List machine.Frame). record { frames = frames; handed = record { table = (handed_shown m).table; used = m.used + length list } }) (one.split ∙ ap (λ (x : machine.Frame). x ∷ one.outer) same)) refl refl (more_used m (m.used + length list) sound)
+
+-- what is taken of a plain block
+pub gained_plain : {V : Type 0} (took : V → List ℕ → Type 0) (v w : V) (m n : Machine) (most : ℕ) (a : BufferedBits) (result : Option RecordHead) → IsMachine m → InPlain m → most ≤ m.limits.values - m.used → IfSome result (λ (read : RecordHead). 0 < vec_len m.frames)
+    → IfSome result (λ (read : RecordHead). Gains took v w (AddsBehind (λ list. InBlock m (λ f outer. ReadsEntry most f a read list) × (n ≡ record m { used = m.used + length list })))) → IfSome result (λ (read : RecordHead). Gains took v w (AddsBehind (λ list. NotesHere m.limits m a read list n)))
+gained_plain took v w m n most a None sound plain fits some gains = tt
+gained_plain took v w m n most a (Some read) sound plain fits some gains = λ before was.
+    let h = gains before was in
+    (h.0, h.1, (h.2.0, h.2.1, subst (NotesHere m.limits m a read h.2.0) (sym h.2.2.1) (plain_noted m most a read h.2.0 sound plain fits some h.2.2.0)))
+
+-- the same into an empty value sink
+pub noted_plain : {V : Type 0} (took : V → List ℕ → Type 0) (v w : V) (m n : Machine) (most : ℕ) (a : BufferedBits) (result : Option RecordHead) → took v [] → IsMachine m → InPlain m → most ≤ m.limits.values - m.used → IfSome result (λ (read : RecordHead). 0 < vec_len m.frames)
+    → IfSome result (λ (read : RecordHead). Gains took v w (AddsBehind (λ list. InBlock m (λ f outer. ReadsEntry most f a read list) × (n ≡ record m { used = m.used + length list })))) → IfSome result (λ (read : RecordHead). Has took w (λ list. NotesHere m.limits m a read list n))
+noted_plain took v w m n most a None none sound plain fits some gains = tt
+noted_plain took v w m n most a (Some read) none sound plain fits some gains =
+    let h = gains [] none in
+    (h.2.0, subst (took w) h.2.1 h.1, subst (NotesHere m.limits m a read h.2.0) (sym h.2.2.1) (plain_noted m most a read h.2.0 sound plain fits some h.2.2.0))
+
+-- a record of a BLOCKINFO block
+pub info_noted : (m n : Machine) (f new : Frame) (others : List Frame) (most : ℕ) (a : BufferedBits) (read : RecordHead) (list : List ℕ) → IsMachine m → open_in m ≡ f ∷ others → open_in n ≡ new ∷ others → n.definitions ≡ m.definitions → n.limits ≡ m.limits → n.used ≡ m.used + length list → vec_len n.frames ≡ vec_len m.frames
+    → new.head ≡ f.head → new.marks ≡ f.marks → is_itself new.describes ≡ is_itself f.describes → most ≤ m.limits.values - m.used → 0 < vec_len m.frames → InBlock m (λ shown outer. ReadsEntry most shown a read list)
+    → ((made : Table) (first : ℕ) → (r : Reader) → r.live ≡ true → Took (blocks.describe (info_shown made f.describes) first (record { code = read.code; values = list })) r (info_shown made new.describes) r) → NotesHere m.limits m a read list n
+info_noted m n f new others most a read list sound was is definitions limits used count head marks info fits some reads describes =
+    let one = first_shown m some in
+    let shown = one.f in
+    let inner = inner_of m f others shown one.outer was one.split in
+    let made = table_in m.definitions.made in
+    let e : CodeAndValues = record { code = read.code; values = list } in
+    let entry_read = reads shown one.outer one.split in
+    let i : shown.info ≡ info_shown made f.describes = ap (λ (x : machine.Frame). x.info) inner.is in
+    notes_here m.limits m n shown one.outer most a read list (info_shown made new.describes) one.split entry_read (omega (arith, fits, entry_read.few))
+    (λ r live. subst (λ (i : Option BlockInfo). Took (blocks.describe i read.first e) r (info_shown made new.describes) r) (sym i) (describes made read.first r live))
+    (described_block m n f new others shown one.outer inner is definitions head marks ∙ ap (λ (k : ℕ). inside shown.head one.outer (record (scope_of shown (handed_shown m)) { info = info_shown made new.describes; handed = record { table = (handed_shown m).table; used = k } })) used)
+    count limits (described_sound m n f new others sound was is definitions marks info)
+
+-- nothing was taken
+pub unchanged_if : {A : Type 0} (result : Option A) (m n : Machine) → IsMachine m → IfNone result (n ≡ m) → IfNone result (Unchanged m n)
+unchanged_if None m n sound same = subst (Unchanged m) (sym same) (unchanged m sound)
+unchanged_if (Some x) m n sound same = tt
+
+-- ---- a step of any kind
+
+pub ended_if : (limits : Limits) (m : Machine) (width : ℕ) (a b : BufferedBits) (result : Result (Option Step) AllocError) (n : Machine) → InBlock m (λ f outer. width ≡ f.head.width) → Reads (fixed width) a 0 b → (vec_len m.frames ≡ 0 → IfOk result (λ (found : Option Step). IsNone found)) → IfOk result (λ (found : Option Step). IfNone found (Unchanged m n))
+    → IfOk result (λ (found : Option Step). InBlock m (λ f outer. StepsHere (end_rule f outer (handed_shown m)) limits.depth m b found n)) → IfOk result (λ (found : Option Step). StepsHere (step limits (machine_shown m)) limits.depth m a found n)
+ended_if limits m width a b (Ok found) n inside id outside same steps = step_ends limits m width a b found n inside id outside same steps
+ended_if limits m width a b (Err e) n inside id outside same steps = tt
+
+pub opened_if : (limits : Limits) (m : Machine) (width first : ℕ) (a b : BufferedBits) (result : Result (Option Step) AllocError) (n : Machine) → InPlain m → InBlock m (λ f outer. width ≡ f.head.width) → (vec_len m.frames ≡ 0 → width ≡ 2) → first ≡ a.position → Reads (fixed width) a 1 b
+    → IfOk result (λ (found : Option Step). StepsHere (open_block limits (frames_shown m) first (handed_shown m)) limits.depth m b found n) → IfOk result (λ (found : Option Step). StepsHere (step limits (machine_shown m)) limits.depth m a found n)
+opened_if limits m width first a b (Ok found) n plain inside top is id steps = step_opens limits m width first a b found n plain inside top is id steps
+opened_if limits m width first a b (Err e) n plain inside top is id steps = tt
+
+-- each step takes some bits
+moved_by : (limits : Limits) (m : Machine) (a : BufferedBits) (found : Option Step) (n : Machine) → StepsHere (step limits (machine_shown m)) limits.depth m a found n → IfSome found (λ (one : Step). a.position < bit_after one)
+moved_by limits m a None n steps = tt
+moved_by limits m a (Some one) n (b, is, steps) =
+    let p = reads_passed (step limits (machine_shown m)) a (step_shown n [] one, machine_shown n) b (steps []).reads in
+    let some = (step_on limits (machine_shown m) (machine_shown n) a.position p.0 (step_shown n [] one) (wide m) p.3).0 in
+    omega (arith, p.2, is, some)
+
+pub moved_if : (limits : Limits) (m : Machine) (a : BufferedBits) (result : Result (Option Step) AllocError) (n : Machine) → IfOk result (λ (found : Option Step). StepsHere (step limits (machine_shown m)) limits.depth m a found n) → IfOk result (λ (found : Option Step). IfSome found (λ (one : Step). a.position < bit_after one))
+moved_if limits m a (Ok found) n steps = moved_by limits m a found n steps
+moved_if limits m a (Err e) n steps = tt

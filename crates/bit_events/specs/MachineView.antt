@@ -61,7 +61,7 @@ pub record IsMachine (m : Machine) : Type 0 where
 -- nothing changed that is seen
 pub record Unchanged (old new : Machine) : Type 0 where
   pub sound : IsMachine new
-  pub frames : new.frames ≡ old.frames
+  pub frames : vec_len new.frames ≡ vec_len old.frames
   pub limits : new.limits ≡ old.limits
   pub shown : machine_shown new ≡ machine_shown old
 

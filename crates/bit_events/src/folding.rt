@@ -122,6 +122,7 @@ fn gather_buffered<S: Source, G: Gatherer>(
 }
 
 /// Gathers the next event, and returns whether there was one.
+#[tactic(auto, using(crate::proofs::Folds::one_event, crate::proofs::Folds::none_left, crate::proofs::Folds::none_found))]
 fn gather_next<S: Source, G: Gatherer>(
     reader: &mut BitReader<S>,
     machine: &mut Machine,

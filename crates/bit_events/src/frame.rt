@@ -1,6 +1,6 @@
 //! Open blocks.
 
-ghost use Rattle.std.specs.Prelude.{◌≡◌, ℕ, false, IfErr};
+ghost use Rattle.std.specs.Prelude.{◌≡◌, ℕ, false, IfErr, OnErr};
 ghost use Rattle.bit_grammar.specs.Grammar.{at};
 ghost use Rattle.bit_grammar.specs.Terms.{Table, info_for, no_definitions};
 ghost use Rattle.bit_grammar.specs.Blocks.{may_define};
@@ -89,6 +89,7 @@ impl Frame {
         ensures info { is_itself self.new.describes ≡ false }
         ensures head { self.new.head ≡ self.old.head }
         ensures marks { self.new.marks ≡ self.old.marks }
+        ensures err { OnErr result (self.new ≡ self.old) }
         ensures reason { IfErr result (λ reason. (e : Extent) (bit : ℕ) → within e reason bit ≡ at reason bit) }
     {
         if code != SET_BID {

@@ -30,6 +30,17 @@ const MOST_AT_ONCE: u64 = 1 << 16;
 /// 32, 8, 4, 31 and 32 bits.
 const STEP: u64 = 192;
 
+/// An abbreviation id of so many bits.
+#[inline(always)]
+fn id_in(bits: PlacedBits<'_>, width: u32) -> u64
+    requires few { width ≤ 32 }
+    requires there { 64 ≤ length (placed bits).bits }
+    ensures reads { Reads (fixed width) (placed bits.entry) result (beyond (placed bits.entry) width) }
+    ensures below { result < 2 ^ 32 }
+{
+    bits.fixed(width)
+}
+
 impl Machine {
     /// Opens a block whose beginning is at `first`; the bits are those after its id.
     #[inline(always)]
@@ -41,9 +52,10 @@ impl Machine {
         requires there { 160 ≤ length (placed bits).bits }
         requires sound { IsMachine self.old }
         requires plain { InPlain self.old }
-        ensures { IfOk result (λ found. StepsHere (open_block self.old.limits (frames_shown self.old)
+        ensures steps { IfOk result (λ found. StepsHere (open_block self.old.limits (frames_shown self.old)
             first (handed_shown self.old)) self.old.limits.depth self.old (placed bits.entry) found
             self.new) }
+        ensures fewer { OnErr result (vec_len self.new.frames ≤ vec_len self.old.frames) }
     {
         if !self.has_depth() {
             return Ok(None);
@@ -65,6 +77,7 @@ impl Machine {
             (placed bits.entry) found self.new)) }
         ensures outside { vec_len self.old.frames ≡ 0 → IfOk result (λ found. IsNone found) }
         ensures stays { IfOk result (λ found. IfNone found (Unchanged self.old self.new)) }
+        ensures fewer { OnErr result (vec_len self.new.frames ≤ vec_len self.old.frames) }
     {
         let Some(frame) = self.frames.last() else {
             return Ok(None);
@@ -93,8 +106,26 @@ impl Machine {
         if !frame.may_define() {
             return None;
         }
-        let after = self.definitions.place(bits, frame.described())?;
-        Some(after.position())
+        match self.definitions.place(bits, frame.described()) {
+            Some(after) => Some(after.position()),
+            None => None,
+        }
+    }
+
+    /// The same as a step, which began at `first`.
+    #[inline(always)]
+    fn define_step(&mut self, bits: PlacedBits<'_>, first: u64) -> Option<Step>
+        requires { IsMachine self.old }
+        ensures steps { (deepest : ℕ) → InBlock self.old (λ f outer.
+            StepsHere (define_rule self.old.limits.shapes f outer first (handed_shown self.old)) deepest
+            self.old (placed bits.entry) result self.new) }
+        ensures outside { vec_len self.old.frames ≡ 0 → IsNone result }
+        ensures stays { IfNone result (Unchanged self.old self.new) }
+    {
+        match self.define_placed(bits) {
+            Some(after) => Some(Step::Define { first, after }),
+            None => None,
+        }
     }
 
     /// Takes one step by bits that are there, if it is no record. `None` leaves what comes to the reader, and the machine as it was: what is
@@ -115,15 +146,16 @@ impl Machine {
         let id = bits.fixed(width);
         let fields = bits.after(u64::from(width));
         let first = bits.position();
-        match id {
-            0 => self.end_placed(fields),
-            1 if self.is_plain() => self.open_placed(fields, first),
-            2 => match self.define_placed(fields) {
-                Some(after) => Ok(Some(Step::Define { first, after })),
-                None => Ok(None),
-            },
-            _ => Ok(None),
+        if id == 0 {
+            return self.end_placed(fields);
         }
+        if id == 2 {
+            return Ok(self.define_step(fields, first));
+        }
+        if id != 1 || !self.is_plain() {
+            return Ok(None);
+        }
+        self.open_placed(fields, first)
     }
 
     /// Takes a record of the innermost block, of at most so many values, by bits that are there, and returns it without its values. These
@@ -139,6 +171,7 @@ impl Machine {
         requires took { TookSome V.took values.old }
         requires most { most ≤ self.old.limits.values - self.old.used }
         requires capped { self.old.limits.values ≤ 4294967295 }
+        requires fits { self.old.used < 2 ^ 64 }
         ensures reads { IfSome result (λ read. Gains V.took values.old values.new (AddsBehind (λ list.
             InBlock self.old (λ f outer. ReadsEntry most f (placed bits.entry) read list)
             × (self.new ≡ record self.old { used = self.old.used + length list })))) }
@@ -150,10 +183,13 @@ impl Machine {
         let frame = self.frames.last()?;
         let before = values.count();
         let width = u32::from(frame.head.width);
-        if before > MOST_BEFORE || !bits.has(64) {
+        if before > MOST_BEFORE {
             return None;
         }
-        let id = bits.fixed(width);
+        if !bits.has(64) {
+            return None;
+        }
+        let id = id_in(bits, width);
         if id < 3 {
             return None;
         }
@@ -215,11 +251,13 @@ impl Machine {
         let Some(frame) = self.frames.last_mut() else {
             unreachable!();
         };
-        if frame.describe(head.code, values.first).is_err() {
-            self.used = used;
-            return None;
+        match frame.describe(head.code, values.first) {
+            Ok(()) => Some(head),
+            Err(_) => {
+                self.used = used;
+                None
+            }
         }
-        Some(head)
     }
 
     /// Takes a record of the innermost block, of any kind and not too long, by bits that are there. The earlier values are dropped; if it
@@ -260,7 +298,7 @@ impl Machine {
         if !bits.has(64) {
             return None;
         }
-        let id = bits.fixed(u32::from(frame.head.width));
+        let id = id_in(bits, u32::from(frame.head.width));
         if id < 3 {
             return None;
         }

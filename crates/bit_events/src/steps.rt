@@ -8,7 +8,7 @@ ghost use Rattle.bit_fields.specs.Reader.{Takes, told_by};
 ghost use Rattle.bit_fields.specs.PlacedView.{placed};
 ghost use Rattle.bit_abbrev.specs.Values.{Has};
 ghost use Rattle.bit_events.specs.FrameView.{info_shown, is_itself};
-ghost use Rattle.bit_events.specs.Looking.{Looks};
+ghost use Rattle.bit_events.specs.Looking.{Looks, LooksApart};
 ghost use Rattle.bit_events.specs.Next.{FindsNext};
 ghost use Rattle.bit_events.specs.MachineView.{frames_shown, handed_shown, machine_shown, step_shown, after_step, KeepsValues, record_of, IsMachine, LeavesMachine, TookSome, InBlock, InPlain, end_rule, define_rule, record_rule};
 
@@ -265,6 +265,19 @@ impl Machine {
         self.step_in(reader, values)
     }
 
+    /// Looks for the next event in bits that are there, if it is no record.
+    #[inline(always)]
+    fn look_apart(&mut self, bits: PlacedBits<'_>) -> Result<Look, AllocError>
+        requires { IsMachine self.old }
+        ensures looks { IfOk result (λ seen. LooksApart self.old (placed bits.entry) seen self.new) }
+        ensures fewer { OnErr result (vec_len self.new.frames ≤ vec_len self.old.frames) }
+    {
+        match self.placed_step(bits)? {
+            Some(step) => Ok(Look::Found(step)),
+            None => Ok(Look::Late),
+        }
+    }
+
     /// Looks for the next event in bits that are there. After a record `values` has its values; a step and what comes late leave them.
     fn look<V: ValueTaker>(
         &mut self,
@@ -278,15 +291,12 @@ impl Machine {
         ensures took { TookSome V.took values.new.taker }
         ensures fewer { OnErr result (vec_len self.new.frames ≤ vec_len self.old.frames) }
     {
-        match self.record_id(bits) {
-            Some(id) => match self.record(bits, values) {
-                Some(head) => Ok(Look::Found(Step::Record(head))),
-                None => Ok(Look::Record(id)),
-            },
-            None => match self.placed_step(bits)? {
-                Some(step) => Ok(Look::Found(step)),
-                None => Ok(Look::Late),
-            },
+        let Some(id) = self.record_id(bits) else {
+            return self.look_apart(bits);
+        };
+        match self.record(bits, values) {
+            Some(head) => Ok(Look::Found(Step::Record(head))),
+            None => Ok(Look::Record(id)),
         }
     }
 
@@ -333,18 +343,20 @@ impl Machine {
     {
         let bits = reader.bits();
         let first = bits.position();
-        match self.look(bits, values) {
-            Ok(Look::Found(step)) => {
+        let Ok(seen) = self.look(bits, values) else {
+            return Err(reader.fail(Fault::Memory));
+        };
+        match seen {
+            Look::Found(step) => {
                 reader.catch_up(step.after() - first);
                 Ok(Some(step))
             }
-            Ok(Look::Record(id)) => {
+            Look::Record(id) => {
                 reader.catch_up(u64::from(self.id_width()));
                 let head = self.note(reader, Begun { id, first }, values)?;
                 Ok(Some(Step::Record(head)))
             }
-            Ok(Look::Late) => self.next_exact(reader, values),
-            Err(_) => Err(reader.fail(Fault::Memory)),
+            Look::Late => self.next_exact(reader, values),
         }
     }
 }

@@ -21,8 +21,8 @@ returns-clause-steps c = λ deepest f outer split.
     let a = placed c.args.bits in
     let items = rw c.deref.ensures.value at c.in-Some.ensures.item in
     let inner = inner_of m c.in-Some.frame.now _ f outer (open_last m c.in-Some.frame.now (omega (arith, ltb-true 0 (length m.frames.items) (sym items.0))) items.1) split in
-    let read = c.in-Some-after.ensures.reads in (
+    let read = c.in-Some-placed_end.ensures.reads in (
       read.0,
       read.1,
-      λ list. ends_here deepest m f outer a c.in-Some-after.after read.0 n c.leave.ensures.fewer (subst (λ (x : machine.Frame). Reads (end_of_block x.head) a c.in-Some-after.after read.0) (sym inner.is) read.2) (omega (arith, read.1, c.in-Some-after.ensures.aligned)) (c.in_ok-leave.ensures.made f outer split) c.leave.ensures.limits c.in_ok-leave.ensures.sound,
+      λ list. ends_here deepest m f outer a c.in-Some-placed_end.after read.0 n c.leave.ensures.fewer (subst (λ (x : machine.Frame). Reads (end_of_block x.head) a c.in-Some-placed_end.after read.0) (sym inner.is) read.2) (omega (arith, read.1, c.in-Some-placed_end.ensures.aligned)) (c.in_ok-leave.ensures.made f outer split) c.leave.ensures.limits c.in_ok-leave.ensures.sound,
     )

@@ -2,7 +2,7 @@ use Rattle.std.proofs.Common.{◌≡◌, ◌-◌, ◌+◌, ◌^◌, ◌≤◌, �
 use Rattle.std.proofs.lemmas.Result.{err_from_is_err_and}
 use Rattle.std.specs.Vec.{with_item}
 use Rattle.bit_grammar.specs.declared.op.Op.{Op}
-use Rattle.bit_grammar.specs.Terms.{BlockInfo}
+use Rattle.bit_grammar.specs.Terms.{BlockInfo, CodeAndValues}
 use Rattle.bit_grammar.specs.Blocks.{describe, entry}
 use Rattle.bit_grammar.specs.Machine as machine
 use Rattle.bit_grammar.specs.Machine.{scope_of}
@@ -77,7 +77,7 @@ returns-in_err-describe_by-clause-takes g c =
           let inner = inner_of m frame _ f outer was split in
           let b = c.args.begun in
           let all = c.in_force-definitions.ensures.all ∙ sym (ap (λ (x : machine.Frame). x.definitions) inner.is) in
-          let e = record { code = c.in_ok-code.code; values = read.0 } in
+          let e : CodeAndValues = record { code = c.in_ok-code.code; values = read.0 } in
           let coded = added (entry c.room-room.result b.first b.id (all_in c.in_force-definitions.result)) c.room-room.result c.args.reader.now (Ok c.in_ok-code.code) c.read_record.new.reader read.0 read.2 in
           let known = subst (λ (d : List (List Op)). Took (entry c.room-room.result b.first b.id d) c.args.reader.now e c.read_record.new.reader) all coded in
           let took = subst (λ (n : ℕ). Took (entry n b.first b.id f.definitions) c.args.reader.now e c.read_record.new.reader) c.room-room.ensures.room known in
@@ -101,7 +101,7 @@ returns-clause-takes g c =
           let made = table_in m.definitions.made in
           let new = c.describe_by.new.frame in
           let n : Machine = record m { frames = with_item m.frames (vec_len m.frames - 1) new; used = m.used + c.count.result } in
-          let e = record { code = c.in_ok-code.code; values = read.0 } in
+          let e : CodeAndValues = record { code = c.in_ok-code.code; values = read.0 } in
           let coded = added (entry c.room-room.result b.first b.id (all_in c.in_force-definitions.result)) c.room-room.result c.args.reader.now (Ok c.in_ok-code.code) c.read_record.new.reader read.0 read.2 in
           let known = subst (λ (d : List (List Op)). Took (entry c.room-room.result b.first b.id d) c.args.reader.now e c.read_record.new.reader) all coded in
           let took = subst (λ (k : ℕ). Took (entry k b.first b.id f.definitions) c.args.reader.now e c.read_record.new.reader) c.room-room.ensures.room known in

@@ -38,7 +38,7 @@ returns-in-Ok-clause-takes g c = λ list.
     let m = c.args.self.now in
     let fits : c.has_depth.result ≡ ltb (length (frames_shown m)) m.limits.depth = c.has_depth.ensures ∙ ap (λ (n : ℕ). ltb n m.limits.depth) (sym (length-frames m)) in
     let judged = subst (λ (h : Bool). Took (test h (at TooDeep c.args.first)) c.args.reader.now tt c.judge.new.self) fits c.in_ok-judge.ensures.takes in
-    subst (λ (event : Event). Took (open_block m.limits (frames_shown m) c.args.first (handed_shown m)) c.args.reader.now (event, machine_shown c.enter.new.self) c.block_head.new.reader) (sym (c.enter-2.ensures.shown (newest c.enter.new.self) list))
+    subst (λ (event : Event). Took (open_block m.limits (frames_shown m) c.args.first (handed_shown m)) c.args.reader.now (event, machine_shown c.enter.new.self) c.block_head.new.reader) (sym (c.enter-in-Ok.ensures.shown (newest c.enter.new.self) list))
     (open_took m.limits (frames_shown m) c.args.first (handed_shown m) c.args.reader.now c.judge.new.self (head_shown c.in_ok-head.head) c.block_head.new.reader c.block_head.new.reader (machine_shown c.enter.new.self) judged c.in_ok-head.ensures refl c.in-Ok.ensures.made)
 
 pub returns-in-Ok-clause-leaves : goal.returns-in-Ok-clause-leaves
@@ -46,7 +46,7 @@ returns-in-Ok-clause-leaves g c = λ list.
     let m = c.args.self.now in
     let fits : vec_len m.frames < m.limits.depth = ltb-true (vec_len m.frames) m.limits.depth (sym c.has_depth.ensures ∙ c.in_ok-judge.ensures.holds) in
     let more = c.in-Ok.ensures.more in
-    subst (λ (event : Event). LeavesMachine m.limits.depth m c.args.reader.now event c.enter.new.self c.block_head.new.reader) (sym (c.enter-2.ensures.shown (newest c.enter.new.self) list)) (record {
+    subst (λ (event : Event). LeavesMachine m.limits.depth m c.args.reader.now event c.enter.new.self c.block_head.new.reader) (sym (c.enter-in-Ok.ensures.shown (newest c.enter.new.self) list)) (record {
       stands = fits;
       opens = omega (arith, more);
       forward = rw (← c.in_ok-judge.ensures.same) c.in_ok-head.ensures.forward;

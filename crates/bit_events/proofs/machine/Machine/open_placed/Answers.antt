@@ -7,14 +7,14 @@ use Rattle.bit_events.proofs.Machines.{unchanged}
 use Rattle.bit_events.proofs.PlacedSteps.{opens_here}
 use Rattle.bit_events.proofs.machine.Machine.open_placed.Goals as goal
 
-pub returns-then-not-has_depth : goal.returns-then-not-has_depth
-returns-then-not-has_depth c = unchanged c.args.self.now c.requires.sound
+pub returns-then-not-has_depth-clause-steps : goal.returns-then-not-has_depth-clause-steps
+returns-then-not-has_depth-clause-steps c = unchanged c.args.self.now c.requires.sound
 
-pub returns-in_default : goal.returns-in_default
-returns-in_default c = unchanged c.args.self.now c.requires.sound
+pub returns-in_default-clause-steps : goal.returns-in_default-clause-steps
+returns-in_default-clause-steps c = unchanged c.args.self.now c.requires.sound
 
-pub returns : goal.returns
-returns c =
+pub returns-clause-steps : goal.returns-clause-steps
+returns-clause-steps c =
     let m = c.args.self.now in
     let n = c.enter.new.self in
     let a = placed c.args.bits in
