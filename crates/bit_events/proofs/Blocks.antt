@@ -6,7 +6,7 @@ use Rattle.bit_grammar.specs.Blocks.{Limits}
 use Rattle.bit_grammar.specs.Machine as machine
 use Rattle.bit_grammar.specs.Machine.{Event, Told, step}
 use Rattle.bit_grammar.specs.Steps.{Leads}
-use Rattle.bit_fields.specs.Buffered.{BufferedBits, Reads, Sees, ShowsBits, beyond, reader_at, reader_further}
+use Rattle.bit_fields.specs.Buffered.{BufferedBits, OnlyLooks, Reads, Sees, ShowsBits, beyond, reader_at, reader_further}
 use Rattle.bit_fields.specs.Devices.{Spends}
 use Rattle.bit_fields.specs.Reader.{Reader, TellsBytes, Took, GoesOn, SpellsTo, StopsReading, failed_reader}
 use Rattle.bit_fields.proofs.BitLaws.{drop_more}
@@ -58,7 +58,8 @@ seen_took rule r a value b sees seen =
 pub advanced_both : (r : Reader) (n m k : ℕ) → n + m ≡ k → reader_further (reader_further r n) m ≡ reader_further r k
 advanced_both r n m k all =
     let place : r.position + n + m ≡ r.position + k = omega (arith, all) in
-    rw (place, drop_more n m r.left, all) refl
+    let there : r.there - n - m ≡ r.there - k = omega (arith, all) in
+    rw (place, there, drop_more n m r.left, all) refl
 
 pub passed_forward : (a b : BufferedBits) → Passed a b → a.position ≤ b.position
 passed_forward a b p = omega (arith, p.2)
@@ -85,7 +86,8 @@ on_none gathered limits m a g sound aligned = record {
   gathers = λ r sees.
       let none : a.position - a.position ≡ 0 = omega arith in
       let same : r.position + 0 ≡ r.position = omega arith in
-      rw (none, same) (none_yet gathered limits m r g sees.live (λ closed. omega (arith, aligned closed, sees.position)), sees);
+      let there : r.there - 0 ≡ r.there = omega arith in
+      rw (none, same, there) (none_yet gathered limits m r g sees.live (λ closed. omega (arith, aligned closed, sees.position)), sees);
 }
 
 -- some, and then more
@@ -230,7 +232,7 @@ run_shown gathered fails limits m r a s g n after h live shows (b, is, on) = rec
   gathers = all.gathers;
 }
   where
-    looks : _
+    looks : OnlyLooks r s
     looks = shows.looks
 
     all : GathersSome gathered limits m r g n (reader_further r (b.position - a.position)) h

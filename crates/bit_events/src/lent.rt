@@ -87,7 +87,7 @@ impl Step {
         values: L,
     ) -> Option<Event<'a, L>>
         ensures { (told : L → List ℕ) → shown_if_any told result
-            ≡ step_lent (option_copied made) (told values) self.now }
+            ≡ step_lent (option_copied made.entry) (told values) self.now }
     {
         match *self {
             Step::Enter {

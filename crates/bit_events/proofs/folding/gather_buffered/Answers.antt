@@ -12,14 +12,6 @@ catch_up-requires g c =
     let up = c.in-Ok.ensures.gathers in
     rw c.position-first.ensures (run_there g.G.Gatherer.gathered c.args.machine.now.limits c.args.machine.now r (placed c.bits-bits.result) s c.args.gatherer.now c.gather_placed.new.machine c.in-Ok.after c.gather_placed.new.gatherer c.bits-bits.follows.holds-at-none up).1
 
-pub overflow_sub : goal.overflow_sub
-overflow_sub g c =
-    let r = c.args.reader.now in
-    let s = c.bits-bits.follows.lender-at-none in
-    let up = c.in-Ok.ensures.gathers in
-    let there = run_there g.G.Gatherer.gathered c.args.machine.now.limits c.args.machine.now r (placed c.bits-bits.result) s c.args.gatherer.now c.gather_placed.new.machine c.in-Ok.after c.gather_placed.new.gatherer c.bits-bits.follows.holds-at-none up in
-    omega (arith, there.0, c.position-first.ensures)
-
 pub returns-in-Ok-clause-takes : goal.returns-in-Ok-clause-takes
 returns-in-Ok-clause-takes g c = rw (c.catch_up.ensures, c.position-first.ensures) (run_shown g.G.Gatherer.gathered g.G.Gatherer.fails c.args.machine.now.limits c.args.machine.now c.args.reader.now (placed c.bits-bits.result) c.bits-bits.follows.lender-at-none c.args.gatherer.now c.gather_placed.new.machine c.in-Ok.after c.gather_placed.new.gatherer c.requires.live c.bits-bits.follows.holds-at-none c.in-Ok.ensures.gathers)
 

@@ -6,8 +6,8 @@ use Rattle.bit_events.proofs.folding.hand_on.Goals as goal
 pub returns-in-Enter-clause-gathers : goal.returns-in-Enter-clause-gathers
 returns-in-Enter-clause-gathers g c = rw c.in-Enter.is (for_each _ (λ (list : List ℕ). g.G.Values.ValueTaker.took c.args.values.now list) c.enter.result c.enter.ensures.gathers)
 
-pub returns-in-Define-in-Some-clause-gathers : goal.returns-in-Define-in-Some-clause-gathers
-returns-in-Define-in-Some-clause-gathers g c =
+pub returns-in-Some-clause-gathers : goal.returns-in-Some-clause-gathers
+returns-in-Some-clause-gathers g c =
     let held = c.newest.ensures.newest in
     rw (c.in-Define.is, ← held, c.in-Some.is) (for_each _ (λ (list : List ℕ). g.G.Values.ValueTaker.took c.args.values.now list) c.define.result c.define.ensures.gathers)
 
@@ -20,8 +20,8 @@ returns-in-Leave-clause-gathers g c = rw c.in-Leave.is (for_each _ (λ (list : L
 pub returns-in-Enter-clause-fails : goal.returns-in-Enter-clause-fails
 returns-in-Enter-clause-fails g c = rw c.in-Enter.is (lost_each _ (λ (list : List ℕ). g.G.Values.ValueTaker.took c.args.values.now list) c.enter.result (on_err_weaker c.enter.result inr c.enter.ensures.fails))
 
-pub returns-in-Define-in-Some-clause-fails : goal.returns-in-Define-in-Some-clause-fails
-returns-in-Define-in-Some-clause-fails g c =
+pub returns-in-Some-clause-fails : goal.returns-in-Some-clause-fails
+returns-in-Some-clause-fails g c =
     let held = c.newest.ensures.newest in
     rw (c.in-Define.is, ← held, c.in-Some.is) (lost_each _ (λ (list : List ℕ). g.G.Values.ValueTaker.took c.args.values.now list) c.define.result (on_err_weaker c.define.result inr c.define.ensures.fails))
 
