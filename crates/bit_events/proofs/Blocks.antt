@@ -8,7 +8,7 @@ use Rattle.bit_grammar.specs.Machine.{Event, Told, step}
 use Rattle.bit_grammar.specs.Steps.{Leads}
 use Rattle.bit_fields.specs.Buffered.{BufferedBits, OnlyLooks, Reads, Sees, ShowsBits, beyond, reader_at, reader_further}
 use Rattle.bit_fields.specs.Devices.{Spends}
-use Rattle.bit_fields.specs.Reader.{Reader, TellsBytes, Took, GoesOn, SpellsTo, StopsReading, failed_reader}
+use Rattle.bit_fields.specs.Reader.{Reader, Extent, TellsBytes, Took, GoesOn, SpellsTo, StopsReading, failed_reader}
 use Rattle.bit_fields.proofs.BitLaws.{drop_more}
 use Rattle.bit_fields.proofs.BufferedReads.{reads_before, reads_forward, reads_passed, reads_there}
 use Rattle.bit_fields.proofs.Composing.{spells_read}
@@ -227,7 +227,7 @@ run_shown gathered fails limits m r a s g n after h live shows (b, is, on) = rec
   pays = subst (λ (x : ℕ). Spends r.incoming r.budget s.incoming x) (sym looks.budget) (looked_spends r.incoming s.incoming r.budget looks.looked);
   forward = omega (arith, looks.position);
   aligned = λ none. rw place (all.aligned none);
-  told = λ k. all.told k ∙ ap (λ (x : _). (let told = told_of limits x.0 (machine_shown n) x.1 x.2 in (all.events ++ told.0, told.1))) (same k);
+  told = λ k. all.told k ∙ ap (λ (x : Extent × ℕ × List Bool). (let told = told_of limits x.0 (machine_shown n) x.1 x.2 in (all.events ++ told.0, told.1))) (same k);
   leads = record { bits = all.leads.bits; leads = all.leads.leads; position = place ∙ all.leads.position; end = looks.end; limit = looks.limit };
   gathers = all.gathers;
 }
@@ -244,7 +244,7 @@ run_shown gathered fails limits m r a s g n after h live shows (b, is, on) = rec
     left : TellsBytes r → drop (after - a.position) s.left ≡ drop (b.position - a.position) r.left
     left k = ap (λ (n : ℕ). drop (n - a.position) s.left) (sym is) ∙ ap (drop (b.position - a.position)) (looks.left k)
 
-    same : (k : TellsBytes r) → (r.extent, r.position + (b.position - a.position), drop (b.position - a.position) r.left) ≡ (s.extent, s.position + (after - a.position), drop (after - a.position) s.left)
+    same : (k : TellsBytes r) → ◌≡◌ {A = Extent × ℕ × List Bool} (r.extent, r.position + (b.position - a.position), drop (b.position - a.position) r.left) (s.extent, s.position + (after - a.position), drop (after - a.position) s.left)
     same k = rw (place, left k, looks.extent k) refl
 
 -- what was gathered is there

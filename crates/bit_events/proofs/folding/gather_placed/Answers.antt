@@ -1,6 +1,7 @@
 use Rattle.std.proofs.Common.{◌≡◌, ◌<◌, ◌-◌, ℕ, Option, Some, None, refl, sym, subst, ap, ◌∙◌, arith}
 use Rattle.std.specs.Prelude.{IfSome}
 use Rattle.std.proofs.lemmas.Result.{err_from_is_err_and}
+use Rattle.bit_grammar.specs.Blocks.{Limits}
 use Rattle.bit_grammar.specs.Machine.{step}
 use Rattle.bit_fields.specs.Buffered.{BufferedBits, beyond}
 use Rattle.bit_fields.specs.PlacedView.{placed}
@@ -36,6 +37,6 @@ returns-in_default-clause-gathers g c =
     let s = c.loop-bits in
     let t = c.gather_records.new in
     let on = s.invariant.on in
-    let all = on_both g.G.Gatherer.gathered m.limits m (placed c.args.from) c.args.gatherer.now s.machine (placed s.bits) s.gatherer t.machine (placed c.in_ok-bits.bits) t.gatherer on (rw on.same_limits at c.in_ok-bits.ensures.gathers) in
+    let all = on_both g.G.Gatherer.gathered m.limits m (placed c.args.from) c.args.gatherer.now s.machine (placed s.bits) s.gatherer t.machine (placed c.in_ok-bits.bits) t.gatherer on (subst (λ (l : Limits). GathersOn g.G.Gatherer.gathered l s.machine (placed s.bits) s.gatherer t.machine (placed c.in_ok-bits.bits) t.gatherer) on.same_limits c.in_ok-bits.ensures.gathers) in
     let same = rw c.in_default.is at c.in_ok-step.ensures.steps in
     (placed c.in_ok-bits.bits, sym c.position.ensures, on_unchanged g.G.Gatherer.gathered m.limits m (placed c.args.from) c.args.gatherer.now t.machine c.placed_step.new.self (placed c.in_ok-bits.bits) t.gatherer all same)
