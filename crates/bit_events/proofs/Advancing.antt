@@ -1,5 +1,5 @@
 -- The next event of a stream is the first of its remaining events.
-use Rattle.std.proofs.Common.{◌≡◌, ℕ, ◌+◌, ◌-◌, ◌%◌, ◌^◌, ◌<◌, ◌≤◌, Bool, true, false, List, [], ◌∷◌, length, Option, Some, None, IsSome, Ok, Err, refl, sym, ap, subst, ◌∙◌, arith, vec_len}
+use Rattle.std.proofs.Common.{◌≡◌, ℕ, ◌+◌, ◌-◌, ◌%◌, ◌^◌, ◌<◌, ◌≤◌, Bool, true, false, List, [], ◌∷◌, length, Option, Some, None, IsSome, Ok, Err, refl, sym, ap, subst, ◌∙◌, arith, vec_len, drop}
 use Rattle.std.proofs.lemmas.List.{append-nil}
 use Rattle.std.specs.Option.{option_map}
 use Rattle.bit_grammar.specs.Grammar as grammar
@@ -27,10 +27,17 @@ use Rattle.bit_fields.proofs.InflowLaws.{Spends-trans, fails_later}
 use Rattle.bit_events.specs.declared.frame.Frame.{Frame}
 use Rattle.bit_events.specs.declared.machine.Step.{Step}
 use Rattle.bit_events.specs.declared.machine.Machine.{Machine}
-use Rattle.bit_events.specs.FrameView.{frame_shown, frames_onto, frames_shown}
+use Rattle.bit_grammar.specs.Terms.{Table}
+use Rattle.bit_grammar.specs.declared.op.Op.{Op}
+use Rattle.bit_abbrev.specs.InfoTables.{table_in}
+use Rattle.bit_abbrev.specs.BlockMarks.{blocks_of}
+use Rattle.bit_events.specs.FrameView.{frames_in}
 use Rattle.bit_events.specs.declared.machine.Step.TheVariants as found
 use Rattle.bit_events.specs.Coming.{held_after}
-use Rattle.bit_events.specs.MachineView.{machine_shown, definition_of, step_shown, step_lent, KeepsValues, HoldsDefinition, Lendable, LeavesMachine}
+use Rattle.bit_events.specs.MachineView.{frames_shown, machine_shown, marks_of, newest, open_in, definition_of, step_shown, step_lent, IsDefine, IsMachine, KeepsValues, HoldsDefinition, LeavesMachine, Unchanged}
+use Rattle.bit_events.proofs.Machines.{unchanged}
+use Rattle.bit_events.proofs.Widths.{wide}
+use Rattle.bit_events.proofs.Stepping.{leaves_later, none_shown, shown_none}
 use Rattle.bit_events.specs.Coming.{over as over_stage}
 use Rattle.bit_events.specs.Coming.{EndsStream, failed, Goes, GivesEvent, EndsEvents, BreaksOff, StopsEvents, event_before, end_at, end_by, told_of}
 use Rattle.bit_events.specs.Next.{LeadsOn, left_to_tell, FindsEvent, FindsEnd, FindsFault}
@@ -38,28 +45,7 @@ use Rattle.bit_events.specs.Events.{stage_of, coming_of, Over, Shuts, Begun, Dec
 use Rattle.bit_events.proofs.Behind.{step_behind}
 use Rattle.bit_events.proofs.Beginnings.{outlook_begun, outlook_declined}
 
--- ---- open blocks
-
-wide_onto : (frames : List Frame) (outer : List machine.Frame) → AreWide outer → AreWide (frames_onto frames outer)
-wide_onto [] outer wide = wide
-wide_onto (f ∷ frames) outer wide = wide_onto frames (frame_shown f ∷ outer) (f.head.least, wide)
-
--- the abbreviation ids of each open block have a width
-wide : (frames : List Frame) → AreWide (frames_shown frames)
-wide frames = wide_onto frames [] tt
-
-some_onto : (frames : List Frame) (f : machine.Frame) (outer : List machine.Frame) → frames_onto frames (f ∷ outer) ≡ [] → ⊥
-some_onto [] f outer e = cc
-some_onto (g ∷ frames) f outer e = some_onto frames (frame_shown g) (f ∷ outer) e
-
--- no block is open
-pub none_shown : (frames : List Frame) → frames_shown frames ≡ [] → length frames ≡ 0
-none_shown [] e = refl
-none_shown (f ∷ frames) e = absurd (some_onto frames (frame_shown f) [] e)
-
-pub shown_none : (frames : List Frame) → length frames ≡ 0 → frames_shown frames ≡ []
-shown_none [] e = refl
-shown_none (f ∷ frames) e = absurd (omega (arith, e))
+-- ---- the remaining events, and whether some are left
 
 -- the events have not ended
 goes_on : (frames : List machine.Frame) (r : List Bool) → (frames ≡ [] → 0 < length r) → is_done frames r ≡ false
@@ -108,8 +94,8 @@ loses_both a b c p q = fails_later a.incoming a.budget b.incoming b.budget c.inc
 abbrev pub Ready : Machine → Reader → Reader → Type 0
 Ready m a b = Stays a b × (vec_len m.frames ≡ 0 → TellsBytes a → 0 < length a.left)
 
-not_done : (m : Machine) (a b : Reader) → Ready m a b → TellsBytes a → is_done (frames_shown m.frames.items) a.left ≡ false
-not_done m a b h tells = goes_on (frames_shown m.frames.items) a.left (λ e. h.1 (m.frames.ok.0 ∙ none_shown m.frames.items e) tells)
+not_done : (m : Machine) (a b : Reader) → Ready m a b → TellsBytes a → is_done (frames_shown m) a.left ≡ false
+not_done m a b h tells = goes_on (frames_shown m) a.left (λ e. h.1 (none_shown m e) tells)
 
 pub dead : (live : Bool) → live ≡ true → live ≡ false → ⊥
 dead live is isnt = cc
@@ -118,28 +104,25 @@ dead live is isnt = cc
 pub event_told : (limits : Limits) (m new : Machine) (event : Event) (a b c : Reader) → Ready m a b → Took (step limits (machine_shown m)) b (event, machine_shown new) c → TellsBytes a → left_to_tell limits m a ≡ event_before event (left_to_tell limits new c)
 event_told limits m new event a b c h took tells =
     let read : reading (step limits (machine_shown m)) a.position a.left ≡ Ok ((event, machine_shown new), c.position, c.left) = subst (λ (left : List Bool). reading (step limits (machine_shown m)) a.position left ≡ Ok ((event, machine_shown new), c.position, c.left)) (h.0.left tells) (subst (λ (p : ℕ). reading (step limits (machine_shown m)) p b.left ≡ Ok ((event, machine_shown new), c.position, c.left)) h.0.position (took.reads (h.0.goes_on.tells tells))) in
-    told_event limits a.extent (machine_shown m) (machine_shown new) a.position c.position a.left c.left event (wide m.frames.items) (not_done m a b h tells) read
+    told_event limits a.extent (machine_shown m) (machine_shown new) a.position c.position a.left c.left event (wide m) (not_done m a b h tells) read
     ∙ ap (λ (e : Extent). event_before event (told_of limits e (machine_shown new) c.position c.left)) (sym (took.extent (h.0.goes_on.tells tells) ∙ h.0.extent tells))
 
 -- a step that breaks is the end
 pub break_told : (limits : Limits) (m : Machine) (reason : _) (bit : ℕ) (a b : Reader) → Ready m a b → (TellsBytes b → fields.Breaks b.extent (reading (step limits (machine_shown m)) b.position b.left) reason bit) → TellsBytes a → left_to_tell limits m a ≡ ([], broke (at reason bit))
 break_told limits m reason bit a b h broken tells =
     let breaks : fields.Breaks a.extent (reading (step limits (machine_shown m)) a.position a.left) reason bit = subst (λ (left : List Bool). fields.Breaks a.extent (reading (step limits (machine_shown m)) a.position left) reason bit) (h.0.left tells) (subst (λ (p : ℕ). fields.Breaks a.extent (reading (step limits (machine_shown m)) p b.left) reason bit) h.0.position (subst (λ (e : Extent). fields.Breaks e (reading (step limits (machine_shown m)) b.position b.left) reason bit) (h.0.extent tells) (broken (h.0.goes_on.tells tells)))) in
-    told_fault limits a.extent (machine_shown m) a.position a.left reason bit (wide m.frames.items) (not_done m a b h tells) breaks
+    told_fault limits a.extent (machine_shown m) a.position a.left reason bit (wide m) (not_done m a b h tells) breaks
 
 -- outside of all blocks the end of the stream is the end of the events
 pub shut_told : (limits : Limits) (m : Machine) (a : Reader) (ending : Ending) → vec_len m.frames ≡ 0 → a.left ≡ [] → end_at a.extent a.position ≡ ending → left_to_tell limits m a ≡ ([], ending)
 shut_told limits m a ending none empty is =
-    told_end limits a.extent (machine_shown m) a.position a.left (shown_none m.frames.items (sym m.frames.ok.0 ∙ none)) empty ∙ ap (λ (e : Ending). ([], e)) is
+    told_end limits a.extent (machine_shown m) a.position a.left (shown_none m none) empty ∙ ap (λ (e : Ending). ([], e)) is
 
 pub stops_after : (a b c : Reader) → Stays a b → StopsReading b c → StopsReading a c
 stops_after a b c p s = record { was_live = p.was_live; failed = s.failed; goes_on = pays_both a b c p.goes_on s.goes_on }
 
 pub loses_after : (a b c : Reader) → Stays a b → Loses b c → Loses a c
 loses_after a b c p s = record { was_live = p.was_live; failed = s.failed; fails = loses_both a b c p.goes_on s.fails }
-
-pub leaves_later : {deepest : ℕ} {old new : Machine} {event : Event} (a b c : Reader) → a.position ≤ b.position → LeavesMachine deepest old b event new c → LeavesMachine deepest old a event new c
-leaves_later a b c forward left = record { stands = left.stands; opens = left.opens; forward = omega (arith, forward, left.forward); aligned = left.aligned; holds = left.holds }
 
 -- the same of a reader that took nothing before
 pub leads_behind : (limits : Limits) (m n : Machine) (events : List Event) (a b c : Reader) → Stays a b → LeadsOn limits m b events n c → LeadsOn limits m a events n c
@@ -166,7 +149,7 @@ leads_event limits m n event a b took =
     let s = took.spells in
     record {
       bits = s.0;
-      leads = (s.0, [], machine_shown n, sym (append-nil s.0), (step_on limits (machine_shown m) (machine_shown n) a.position s.0 event (wide m.frames.items) s.1).0, s.1, (refl, refl));
+      leads = (s.0, [], machine_shown n, sym (append-nil s.0), (step_on limits (machine_shown m) (machine_shown n) a.position s.0 event (wide m) s.1).0, s.1, (refl, refl));
       position = s.2;
       end = took.end;
       limit = took.limit;
@@ -194,13 +177,13 @@ finds_fault limits m a b Write c h why = why
 finds_fault limits m a b OutputTooLong c h why = why
 
 -- the input ends
-pub finds_end : (limits : Limits) (m : Machine) (a c : Reader) → vec_len m.frames ≡ 0 → Over a c → FindsEnd limits m a m c
-finds_end limits m a c none over = record {
+pub finds_end : (limits : Limits) (m : Machine) (a c : Reader) → IsMachine m → vec_len m.frames ≡ 0 → Over a c → FindsEnd limits m a m c
+finds_end limits m a c sound none over = record {
   stops = over.stops;
   position = over.position;
   outside = none;
   ends = over.ends;
-  same = refl;
+  same = unchanged m sound;
   told = λ tells. (let o = over.told tells in shut_told limits m a (accepted a.position) none o.0 o.1);
   none = over.none;
 }
@@ -218,7 +201,7 @@ finds_shut limits m a c outside OutputTooLong out h = h
 
 -- an input was begun
 pub began : (limits : Limits) (i : Incoming) (head : Head) (m : Machine) (values : List ℕ) (r : Reader) → Capped limits → machine_shown m ≡ at_start → values ≡ [] → vec_len m.frames ≡ 0
-    → OpenedInput (fresh i limits.bytes) head r → Begun limits i (coming_of false limits head m values None r.position r)
+    → OpenedInput (fresh i limits.bytes) head r → Begun limits i (coming_of false limits head m values None None r.position r)
 began limits i head m values r capped shown held none o = record {
   capped = capped;
   goes = rw o.live refl;
@@ -253,12 +236,12 @@ declined limits i OutputTooLong now low h = absurd h
 
 -- ---- in the program's state
 
--- a definition that the machine holds is lent
-lends : (m : Machine) (values : List ℕ) (step : Step) → HoldsDefinition m (step_shown m values step) → Lendable m step → step_lent m values step ≡ Some (step_shown m values step)
-lends m values (found.Enter body first id width) h l = refl
-lends m values (found.Define first after) h l = ap (option_map (definition_of first after)) (l ∙ h)
-lends m values (found.Record head) h l = refl
-lends m values (found.Leave after) h l = refl
+-- a definition that was made is lent
+lends : (n : Machine) (made : Option (List Op)) (values : List ℕ) (step : Step) → (IsDefine step → made ≡ newest n) → HoldsDefinition n (step_shown n values step) → step_lent made values step ≡ Some (step_shown n values step)
+lends n made values (found.Enter body first id width) is h = refl
+lends n made values (found.Define first after) is h = ap (option_map (definition_of first after)) (is tt ∙ h)
+lends n made values (found.Record head) is h = refl
+lends n made values (found.Leave after) is h = refl
 
 -- the values held after a step
 pub values_held : {V : Type 0} (kept : V → List ℕ) (n : Machine) (step : Step) (v w : V) → KeepsValues step v w → kept w ≡ held_after (step_shown n (kept w) step) (kept v)
@@ -268,14 +251,14 @@ values_held kept n (found.Record head) v w e = refl
 values_held kept n (found.Leave after) v w e = ap kept e
 
 -- an event was found, and it is lent
-pub kept_goes : (is_over now_over : Bool) (limits : Limits) (head : Head) (m n : Machine) (vs ws : List ℕ) (found : Option Step) (next : Step) (place there : ℕ) (a c : Reader) → is_over ≡ false → now_over ≡ false → place ≡ a.position → there ≡ c.position → FindsEvent limits m a (step_shown n ws next) n c → Lendable n next → ws ≡ held_after (step_shown n ws next) vs → a.position < c.position → there < 2 ^ 64
-    → Goes (coming_of is_over limits head m vs found place a) (Ok (step_lent n ws next)) (coming_of now_over limits head n ws (Some next) there c)
-kept_goes is_over now_over limits head m n vs ws found next place there a c e now_e here is_there finds can held forward below =
-    subst (λ (o : Option Event). Goes (coming_of is_over limits head m vs found place a) (Ok o) (coming_of now_over limits head n ws (Some next) there c)) (sym (lends n ws next finds.leaves.holds can))
-    (subst (λ (x : Bool). GivesEvent (coming_of x limits head m vs found place a) (step_shown n ws next) (coming_of now_over limits head n ws (Some next) there c)) (sym e)
-    (subst (λ (x : Bool). GivesEvent (coming_of false limits head m vs found place a) (step_shown n ws next) (coming_of x limits head n ws (Some next) there c)) (sym now_e) given))
+pub kept_goes : (is_over now_over : Bool) (limits : Limits) (head : Head) (m n : Machine) (vs ws : List ℕ) (found : Option Step) (next : Step) (was made : Option (List Op)) (place there : ℕ) (a c : Reader) → is_over ≡ false → now_over ≡ false → place ≡ a.position → there ≡ c.position → FindsEvent limits m a (step_shown n ws next) n c → (IsDefine next → made ≡ newest n) → ws ≡ held_after (step_shown n ws next) vs → a.position < c.position → there < 2 ^ 64
+    → Goes (coming_of is_over limits head m vs found was place a) (Ok (step_lent made ws next)) (coming_of now_over limits head n ws (Some next) made there c)
+kept_goes is_over now_over limits head m n vs ws found next was made place there a c e now_e here is_there finds can held forward below =
+    subst (λ (o : Option Event). Goes (coming_of is_over limits head m vs found was place a) (Ok o) (coming_of now_over limits head n ws (Some next) made there c)) (sym (lends n made ws next can finds.leaves.holds))
+    (subst (λ (x : Bool). GivesEvent (coming_of x limits head m vs found was place a) (step_shown n ws next) (coming_of now_over limits head n ws (Some next) made there c)) (sym e)
+    (subst (λ (x : Bool). GivesEvent (coming_of false limits head m vs found was place a) (step_shown n ws next) (coming_of x limits head n ws (Some next) made there c)) (sym now_e) given))
   where
-    given : GivesEvent (coming_of false limits head m vs found place a) (step_shown n ws next) (coming_of false limits head n ws (Some next) there c)
+    given : GivesEvent (coming_of false limits head m vs found was place a) (step_shown n ws next) (coming_of false limits head n ws (Some next) made there c)
     given = record {
       went = rw finds.was_live refl;
       goes = rw finds.live refl;
@@ -301,14 +284,14 @@ pays_like : (a b c : Reader) → IsLike b c → GoesOn a b → GoesOn a c
 pays_like a b c like pays = rw (like.incoming, like.budget) pays
 
 -- no event was found
-pub kept_misses : (is_over : Bool) (limits : Limits) (head : Head) (m n : Machine) (vs ws : List ℕ) (found : Option Step) (place : ℕ) (a b c : Reader) (fault : Fault) → is_over ≡ false → vec_len n.frames ≤ vec_len m.frames → FindsFault limits m a fault b → IsLike b c → BreaksOff (coming_of is_over limits head m vs found place a) fault (coming_of is_over limits head n ws found place c)
-kept_misses is_over limits head m n vs ws found place a b c fault e fewer finds like =
-    subst (λ (x : Bool). BreaksOff (coming_of x limits head m vs found place a) fault (coming_of x limits head n ws found place c)) (sym e) (go fault finds)
+pub kept_misses : (is_over : Bool) (limits : Limits) (head : Head) (m n : Machine) (vs ws : List ℕ) (found : Option Step) (was made : Option (List Op)) (place : ℕ) (a b c : Reader) (fault : Fault) → is_over ≡ false → vec_len n.frames ≤ vec_len m.frames → FindsFault limits m a fault b → IsLike b c → BreaksOff (coming_of is_over limits head m vs found was place a) fault (coming_of is_over limits head n ws found made place c)
+kept_misses is_over limits head m n vs ws found was made place a b c fault e fewer finds like =
+    subst (λ (x : Bool). BreaksOff (coming_of x limits head m vs found was place a) fault (coming_of x limits head n ws found made place c)) (sym e) (go fault finds)
   where
-    stops : StopsReading a b → StopsEvents (coming_of false limits head m vs found place a) (coming_of false limits head n ws found place c)
+    stops : StopsReading a b → StopsEvents (coming_of false limits head m vs found was place a) (coming_of false limits head n ws found made place c)
     stops s = record { went = rw s.was_live refl; stopped = rw (like.live, s.failed) refl; head = refl; position = refl; depth = fewer; deepest = refl; pays = pays_like a b c like s.goes_on }
 
-    go : (f : Fault) → FindsFault limits m a f b → BreaksOff (coming_of false limits head m vs found place a) f (coming_of false limits head n ws found place c)
+    go : (f : Fault) → FindsFault limits m a f b → BreaksOff (coming_of false limits head m vs found was place a) f (coming_of false limits head n ws found made place c)
     go (Refused reason bit) (s, told) = (stops s, told)
     go Read s = record { went = rw s.was_live refl; stopped = rw (like.live, s.failed) refl; head = refl; position = refl; depth = fewer; deepest = refl; fails = rw (like.incoming, like.budget) s.fails }
     go Memory s = stops s
@@ -325,18 +308,18 @@ begun true e = cc
 begun false e = cc
 
 -- the input ends
-pub kept_ends : (is_over now_over : Bool) (limits : Limits) (head : Head) (m n : Machine) (vs ws : List ℕ) (found : Option Step) (place there : ℕ) (a b c : Reader) → is_over ≡ false → now_over ≡ true → place ≡ a.position → there ≡ place → FindsEnd limits m a n b → IsLike b c
-    → EndsEvents (coming_of is_over limits head m vs found place a) (coming_of now_over limits head n ws None there c)
-kept_ends is_over now_over limits head m n vs ws found place there a b c e now_e here is_there finds like =
-    subst (λ (x : Bool). EndsEvents (coming_of x limits head m vs found place a) (coming_of now_over limits head n ws None there c)) (sym e)
-    (subst (λ (x : Bool). EndsEvents (coming_of false limits head m vs found place a) (coming_of x limits head n ws None there c)) (sym now_e) record {
+pub kept_ends : (is_over now_over : Bool) (limits : Limits) (head : Head) (m n : Machine) (vs ws : List ℕ) (found : Option Step) (was made : Option (List Op)) (place there : ℕ) (a b c : Reader) → is_over ≡ false → now_over ≡ true → place ≡ a.position → there ≡ place → FindsEnd limits m a n b → IsLike b c
+    → EndsEvents (coming_of is_over limits head m vs found was place a) (coming_of now_over limits head n ws None made there c)
+kept_ends is_over now_over limits head m n vs ws found was made place there a b c e now_e here is_there finds like =
+    subst (λ (x : Bool). EndsEvents (coming_of x limits head m vs found was place a) (coming_of now_over limits head n ws None made there c)) (sym e)
+    (subst (λ (x : Bool). EndsEvents (coming_of false limits head m vs found was place a) (coming_of x limits head n ws None made there c)) (sym now_e) record {
       held_on = λ was. still a.live finds.stops.was_live was;
       ends = refl;
       again = λ was. absurd (begun a.live was);
       pays = pays_like a b c like finds.stops.goes_on;
       head = refl;
       depth = finds.outside;
-      none_open = ap (λ (x : Machine). vec_len x.frames) finds.same ∙ finds.outside;
+      none_open = finds.same.frames ∙ finds.outside;
       told = λ tells. (finds.told tells ∙ ap (λ (p : ℕ). ([], accepted p)) (sym (is_there ∙ here)), refl);
       none = λ _ tells. rw like.incoming (finds.none tells);
     })

@@ -1,5 +1,5 @@
 -- Events that are gathered, one after another, up to the end of an input.
-use Rattle.std.proofs.Common.{◌≡◌, ℕ, ◌+◌, ◌%◌, ◌<◌, Bool, length, true, false, List, [], ◌∷◌, ◌++◌, Option, None, IsSome, Result, Ok, Err, vec_len, refl, sym, ap, subst, ◌∙◌, arith, append_assoc, inl, inr}
+use Rattle.std.proofs.Common.{◌≡◌, ℕ, ◌+◌, ◌%◌, ◌<◌, ◌⊎◌, Bool, length, true, false, List, [], ◌∷◌, ◌++◌, Option, None, IsSome, Result, Ok, Err, vec_len, refl, sym, ap, subst, ◌∙◌, arith, append_assoc, inl, inr}
 use Rattle.std.proofs.lemmas.List.{append-nil, length-append}
 use Rattle.std.specs.Prelude.{OnErr, OnOk}
 use Rattle.std.specs.declared.alloc.AllocError.{AllocError}
@@ -13,8 +13,8 @@ use Rattle.bit_grammar.specs.Steps.{Leads, MayStand, open_after}
 use Rattle.bit_fields.specs.declared.fault.Fault.{Fault}
 use Rattle.bit_fields.specs.declared.fault.Fault.TheVariants.{Refused, Read, Write, Memory, OutputTooLong, Failed}
 use Rattle.bit_fields.specs.declared.head.Head.{Head}
-use Rattle.bit_fields.specs.Devices.{Incoming, known_bytes}
-use Rattle.bit_fields.specs.Reader.{Reader, TellsBytes, GoesOn, StopsReading, Loses, failed_reader}
+use Rattle.bit_fields.specs.Devices.{Incoming, Fails, known_bytes}
+use Rattle.bit_fields.specs.Reader.{Reader, TellsBytes, GoesOn, GivenBack, Returned, StopsReading, Loses, failed_reader}
 use Rattle.bit_fields.specs.Ending.{Stays}
 use Rattle.bit_fields.specs.Opening.{head_told, fresh, OpenedInput}
 use Rattle.bit_fields.proofs.InflowLaws.{Spends-refl, Spends-trans, Spends-none, Fails-none, fails_later}
@@ -26,7 +26,9 @@ use Rattle.bit_events.specs.Gathering.{open_behind, left_open, FailsAt, Gathers,
 use Rattle.bit_events.specs.MachineView.{machine_shown}
 use Rattle.bit_events.specs.Next.{LeadsOn, left_to_tell, FindsEvent, FindsEnd, FindsFault}
 use Rattle.bit_events.specs.Reading.{Spent, ReadsWhole}
-use Rattle.bit_events.proofs.Advancing.{Ready, loses_both, pays_both, shown_none}
+use Rattle.bit_events.proofs.Advancing.{Ready, loses_both, pays_both}
+use Rattle.bit_events.proofs.Finding.{stays_same}
+use Rattle.bit_events.proofs.Stepping.{shown_none}
 use Rattle.bit_events.proofs.SomeBytes.{some_bytes}
 use Rattle.bit_events.proofs.WholeInputs.{accepted_input}
 
@@ -51,9 +53,6 @@ lost_each P Taken (Ok x) holds = tt
 lost_each P Taken (Err e) holds = λ list took. holds
 
 -- ---- events, one after another
-
-pub stays_same : (a : Reader) → a.live ≡ true → Stays a a
-stays_same a live = record { was_live = live; live = live; goes_on = Spends-refl a.incoming a.budget; position = refl; end = refl; limit = refl; extent = λ _. refl; left = λ _. refl }
 
 -- a block is open
 pub in_block : (m : Machine) (a : Reader) → a.live ≡ true → 0 < vec_len m.frames → Ready m a a
@@ -234,12 +233,18 @@ none_found gathered fails limits m a g OutputTooLong b h = h
 pub none_left : {G : Type 0} (gathered : G → List Event → G → Type 0) (limits : Limits) (m : Machine) (a : Reader) (g : G) (n : Machine) (b : Reader) → FindsEnd limits m a n b → GathersAll gathered limits m a g n b g
 none_left gathered limits m a g n b finds = record {
   events = [];
-  closed = ap (λ (o : Machine). vec_len o.frames) finds.same ∙ finds.outside;
+  closed = finds.same.frames ∙ finds.outside;
   stopped = finds.stops.failed;
   pays = finds.stops.goes_on;
   told = λ tells. finds.told tells ∙ ap (λ (p : ℕ). ([], accepted p)) (sym finds.position);
   ended = a;
-  leads = subst (λ (o : Machine). LeadsOn limits m a [] o a) (sym finds.same) (leads_none limits m a);
+  leads = record {
+    bits = [];
+    leads = subst (λ (x : machine.Machine). Leads limits (machine_shown m) a.position [] [] x) (sym finds.same.shown) (refl, refl);
+    position = omega arith;
+    end = refl;
+    limit = refl;
+  };
   ends = finds.ends;
   position = finds.position;
   none = finds.none;
@@ -268,24 +273,46 @@ then_all gathered limits m a g n b h o c k some all = record {
 
 -- ---- a whole input
 
-pub spent : (limits : Limits) (i : Incoming) (head : Head) (m : Machine) (a b : Reader) → Begun limits i (coming_of false limits head m [] None a.position a) → GoesOn a b → Spent limits i b.incoming
-spent limits i head m a b begun pays = Spends-none i (limits.bytes + 1) b.incoming b.budget (Spends-trans i (limits.bytes + 1) a.incoming a.budget b.incoming b.budget begun.pays pays)
+-- a source that was given back, after a reader that had failed or was closed
+returned_by : (b : Reader) (now : Incoming) → b.live ≡ false → Returned b now ⊎ ((b.live ≡ true) × Fails b.incoming b.budget now 0) → Returned b now
+returned_by b now stopped returned = elim returned [
+  | inl r ↦ r
+  | inr r ↦ absurd (let both : true ≡ false = sym r.0 ∙ stopped in cc)
+]
+
+pub spent : (limits : Limits) (i : Incoming) (head : Head) (m : Machine) (a b : Reader) (now : Incoming) → Begun limits i (coming_of false limits head m [] None None a.position a) → GoesOn a b → b.live ≡ false → Returned b now ⊎ ((b.live ≡ true) × Fails b.incoming b.budget now 0) → Spent limits i now
+spent limits i head m a b now begun pays stopped returned =
+    Spends-trans i (limits.bytes + 1) b.incoming b.budget now 0 (Spends-trans i (limits.bytes + 1) a.incoming a.budget b.incoming b.budget begun.pays pays) (returned_by b now stopped returned).spends
+
+-- no byte is left in it, if none was before
+pub none_returned : (b : Reader) (now : Incoming) → b.live ≡ false → Returned b now ⊎ ((b.live ≡ true) × Fails b.incoming b.budget now 0) → IsSome b.incoming.to_come → known_bytes b.incoming.to_come ≡ [] → known_bytes now.to_come ≡ []
+none_returned b now stopped returned tells none = ((returned_by b now stopped returned).failed stopped).bytes tells ∙ none
+
+-- a source that failed and was then given back
+fails_back : (i j now : Incoming) (n : ℕ) → Fails i n j 0 → GivenBack j now → Fails i n now 0
+fails_back i j now n fails back = record {
+  pulls = omega (arith, fails.pulls, back.pulls);
+  failed = elim fails.failed [
+    | inl one ↦ inl (back.failures ∙ one)
+    | inr worn ↦ inr (back.failures ∙ worn.0, rw (back.pulls, back.failures) worn.1)
+  ];
+  tells = λ some. back.tells (fails.tells some);
+  bytes = λ some. (let same = ap length (back.bytes (fails.tells some)) in let few = fails.bytes some in omega (arith, same, few));
+  accounts = λ k all says. back.accounts k all (fails.accounts k all says);
+}
 
 abbrev failure : {A : Type 0} → Fault → Result A Fault
 failure fault = Err fault
 
-pub not_read : {A G : Type 0} (Holds : List ℕ → A → Type 0) (gathered : G → List Event → G → Type 0) (fails : G → Option Event → G → Type 0) (limits : Limits) (i now : Incoming) (head : Head) (m : Machine) (a : Reader) (g : G) (b : Reader) (h : G) (fault : Fault) → Begun limits i (coming_of false limits head m [] None a.position a) → now ≡ b.incoming → MissesEvents gathered fails limits m a g fault b h → ReadsWhole Holds limits i (Err fault) now
-not_read {A = A} Holds gathered fails limits i now head m a g b h fault begun is_now miss = subst (λ (x : Incoming). ReadsWhole Holds limits i (failure {A = A} fault) x) (sym is_now) (go fault miss)
-  where
-    go : (fault : Fault) → MissesEvents gathered fails limits m a g fault b h → ReadsWhole Holds limits i (failure {A = A} fault) b.incoming
-    go (Refused reason bit) k = (spent limits i head m a b begun k.0.goes_on, λ tells. (told_if_broken limits (known_bytes i.to_come) (at reason bit)).1 (inr ((head_told head, left_to_tell limits m a), begun.told tells, ap (λ (told : Told). told.1) (k.1.told (begun.pays.tells tells)))))
-    go Read k = Fails-none i (limits.bytes + 1) b.incoming b.budget (fails_later i (limits.bytes + 1) a.incoming a.budget b.incoming b.budget begun.pays k.0.fails)
-    go Memory k = spent limits i head m a b begun k.0.goes_on
-    go Failed k = k
-    go Write k = k
-    go OutputTooLong k = k
+pub not_read : {A G : Type 0} (Holds : List ℕ → A → Type 0) (gathered : G → List Event → G → Type 0) (fails : G → Option Event → G → Type 0) (limits : Limits) (i now : Incoming) (head : Head) (m : Machine) (a : Reader) (g : G) (b : Reader) (h : G) (fault : Fault) → Begun limits i (coming_of false limits head m [] None None a.position a) → Returned b now ⊎ ((b.live ≡ true) × Fails b.incoming b.budget now 0) → MissesEvents gathered fails limits m a g fault b h → ReadsWhole Holds limits i (Err fault) now
+not_read {A = A} Holds gathered fails limits i now head m a g b h (Refused reason bit) begun returned k = (spent limits i head m a b now begun k.0.goes_on k.0.failed returned, λ tells. (told_if_broken limits (known_bytes i.to_come) (at reason bit)).1 (inr ((head_told head, left_to_tell limits m a), begun.told tells, ap (λ (told : Told). told.1) (k.1.told (begun.pays.tells tells)))))
+not_read {A = A} Holds gathered fails limits i now head m a g b h Read begun returned k = fails_back i b.incoming now (limits.bytes + 1) (Fails-none i (limits.bytes + 1) b.incoming b.budget (fails_later i (limits.bytes + 1) a.incoming a.budget b.incoming b.budget begun.pays k.0.fails)) ((returned_by b now k.0.failed returned).failed k.0.failed)
+not_read {A = A} Holds gathered fails limits i now head m a g b h Memory begun returned k = spent limits i head m a b now begun k.0.goes_on k.0.failed returned
+not_read {A = A} Holds gathered fails limits i now head m a g b h Failed begun returned k = k
+not_read {A = A} Holds gathered fails limits i now head m a g b h Write begun returned k = k
+not_read {A = A} Holds gathered fails limits i now head m a g b h OutputTooLong begun returned k = k
 
-pub whole_gathered : {G : Type 0} (gathered : G → List Event → G → Type 0) (limits : Limits) (i : Incoming) (head : Head) (m : Machine) (a : Reader) (g : G) (n : Machine) (b : Reader) (h : G) (after : ℕ) → Begun limits i (coming_of false limits head m [] None a.position a) → gathered g [] g → after ≡ b.position → GathersAll gathered limits m a g n b h → IsSome i.to_come
+pub whole_gathered : {G : Type 0} (gathered : G → List Event → G → Type 0) (limits : Limits) (i : Incoming) (head : Head) (m : Machine) (a : Reader) (g : G) (n : Machine) (b : Reader) (h : G) (after : ℕ) → Begun limits i (coming_of false limits head m [] None None a.position a) → gathered g [] g → after ≡ b.position → GathersAll gathered limits m a g n b h → IsSome i.to_come
     → Gathered gathered limits (known_bytes i.to_come) g (head_told head) h after
 whole_gathered gathered limits i head m a g n b h after begun none is_after all tells =
     let it = accepted_input limits (known_bytes i.to_come) (head_told head) all.events b.position (begun.told tells ∙ ap (λ (told : Told). Ok (head_told head, told)) (all.told (begun.pays.tells tells))) in
@@ -305,7 +332,7 @@ some_gathered gathered limits i head m a g n b h after capped o shown outside no
     let on = all.leads in
     let fills = all.ends.fills in
     let start : Leads limits at_start a.position on.bits all.events (machine_shown n) = subst (λ (x : machine.Machine). Leads limits x a.position on.bits all.events (machine_shown n)) shown on.leads in
-    let closed : (machine_shown n).frames ≡ [] = shown_none n.frames.items (sym n.frames.ok.0 ∙ all.closed) in
+    let closed : (machine_shown n).frames ≡ [] = shown_none n all.closed in
     let it = some_bytes limits (head_told head) a.position all.ended.extent.end all.ended.position o.spells.0 on.bits all.events (machine_shown n) o.spells.1 o.spells.2 start closed on.position (on.end ∙ o.end) fills.wrapped all.ends.aligned (omega (arith, fills.within, on.limit, o.limit)) in (
       it.0,
       record {

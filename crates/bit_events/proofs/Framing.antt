@@ -1,111 +1,28 @@
--- Records and definitions in a block, as its frame holds them.
-use Rattle.std.proofs.Common.{Bor, ◌≡◌, ◌≢◌, ◌⊎◌, ℕ, ◌+◌, ◌-◌, ◌^◌, ◌<◌, Bool, true, false, cond, eqb, ltb, List, [], ◌∷◌, length, get_or, Option, Some, None, Result, Ok, Err, is_some, refl, sym, ap, ◌∙◌, subst, slice_get, eq-eqb, inl, inr}
-use Rattle.std.proofs.lemmas.Bool.{ne_eqb, lt-ltb}
-use Rattle.std.proofs.lemmas.List.{append-nil}
-use borrow.Author.Tests.{ltb-true}
-use Rattle.std.proofs.lemmas.Option.{slice_get_within, get_or_from_slice_get, slice_get-get_or}
-use Rattle.std.specs.Option.{option_copied}
-use Rattle.std.specs.Prelude.{IfSome}
-use Rattle.std.specs.Result.{OnOk}
-use Rattle.std.specs.declared.alloc.AllocError.{AllocError}
+-- What a block makes of its definitions and records.
+use Rattle.std.proofs.Common.{◌≡◌, ◌≢◌, ℕ, ◌-◌, ◌+◌, ◌^◌, Bool, true, false, cond, is_some, eqb, ltb, List, [], ◌∷◌, ◌++◌, length, get_or, Option, Some, None, Result, Ok, Err, refl, sym, ap, ◌∙◌, subst}
+use Rattle.std.specs.Prelude.{slice_get, OnOk}
+use Rattle.std.proofs.lemmas.Bool.{eq-eqb, ne_eqb}
 use Rattle.bit_grammar.specs.declared.shapes.Shapes.{Shapes}
 use Rattle.bit_grammar.specs.declared.op.Op.{Op}
-use Rattle.bit_grammar.specs.declared.reason.Reason.TheVariants.{UndefinedAbbrev, AbbrevShape, NoBlockSet, BadSetBid}
-use Rattle.bit_grammar.specs.Grammar.{Grammar, at, gives, refuses, test, choose, ◌>>=◌, ◌>>◌}
-use Rattle.bit_grammar.specs.Record.{unabbreviated, abbreviated}
-use Rattle.bit_grammar.specs.Terms.{CodeAndValues, BlockInfo, defined_at}
+use Rattle.bit_grammar.specs.declared.reason.Reason.TheVariants.{NoBlockSet, BadSetBid}
+use Rattle.bit_grammar.specs.Grammar as grammar
+use Rattle.bit_grammar.specs.Grammar.{Grammar, at, gives, test, ◌>>=◌, ◌>>◌}
+use Rattle.bit_grammar.specs.Definition.{definition}
 use Rattle.bit_grammar.specs.Forest.{set_bid, names_block}
-use Rattle.bit_grammar.specs.Blocks.{Handed, Scope, defined, may_define, define, by_definition, entry, describe, record_after}
-use Rattle.bit_grammar.specs.Machine.{scope_of}
+use Rattle.bit_grammar.specs.Terms.{BlockInfo, CodeAndValues, Table}
+use Rattle.bit_grammar.specs.Blocks.{Scope, may_define, defined, describe, define, entry, record_after}
 use Rattle.bit_fields.specs.declared.fault.Fault.{Fault}
 use Rattle.bit_fields.specs.Reader.{Reader, Took, Why, Takes, told_by}
-use Rattle.bit_fields.proofs.Composing.{took_then, fault_then, took_nothing, first_chosen, second_chosen, holds_then, same_reading}
-use Rattle.bit_grammar.specs.Definition.{definition, has_shape}
-use Rattle.bit_abbrev.specs.Bits.{Answers}
-use Rattle.bit_abbrev.specs.Ready.{InfoMade, table_of}
-use Rattle.bit_abbrev.specs.declared.abbrev.Abbrev.{Abbrev}
-use Rattle.bit_abbrev.specs.Values.{AddsWithin, Gains}
+use Rattle.bit_fields.proofs.Composing.{took_then, fault_then, took_nothing, same_reading, first_chosen, second_chosen}
+use Rattle.bit_abbrev.specs.Values.{AddsWithin}
+use Rattle.bit_events.specs.declared.frame.Describes.{Describes}
+use Rattle.bit_events.specs.declared.frame.Describes.TheVariants.{Itself, NoneYet, Block}
+use Rattle.bit_events.specs.FrameView.{described_value, described_id, info_shown, is_itself}
 use Rattle.bit_events.proofs.Telling.{told, why, andThen, breaks, ends, here}
-use Rattle.bit_events.specs.declared.frame.Describing.{Describing}
-use Rattle.bit_events.specs.declared.frame.Frame.{Frame}
-use Rattle.bit_events.specs.Runs.{IsDefinition}
-use Rattle.bit_events.specs.FrameView.{info_shown, described_value, described_id, frame_shown}
 
--- ---- definitions
-
--- one more definition for the described block
-pub put_described : (f : Frame) (d : Describing) (id : ℕ) (ops : List Op) (made : InfoMade) (result : Result (Unit {0}) AllocError) → f.info ≡ Some d → d.described ≡ Some id → OnOk result (table_of made.made ≡ defined_at id ops (table_of d.made.made))
-    → OnOk result ((handed : Handed) → scope_of (frame_shown (record f { info = Some (record d { made = made }) })) handed ≡ defined (info_shown f.info) ops (scope_of (frame_shown f) handed))
-put_described f d id ops made (Ok x) is described puts = λ handed. rw (is, described, puts) refl
-put_described f d id ops made (Err e) is described puts = tt
-
--- ---- records
-
-pub plain_entry : (room first id : ℕ) (definitions : List (List Op)) (a : Reader) (result : Result CodeAndValues Fault) (b : Reader) → id ≡ 3 → Takes (unabbreviated room) a result b → Takes (entry room first id definitions) a result b
-unfolding entry
-plain_entry room first id definitions a result b plain t =
-    first_chosen (eqb id 3) (unabbreviated room) (choose (ltb (id - 4) (length definitions)) (by_definition first room (get_or definitions (id - 4) [])) (refuses (at UndefinedAbbrev first))) a result b (eq-eqb id 3 plain) t
-
--- by a definition in force
-pub found_entry : (room first id : ℕ) (definitions : List (List Op)) (ops : List Op) (a : Reader) (result : Result CodeAndValues Fault) (b : Reader) → id ≢ 3 → slice_get definitions (id - 4) ≡ Some ops → Takes (by_definition first room ops) a result b → Takes (entry room first id definitions) a result b
-unfolding entry
-found_entry room first id definitions ops a result b other found t =
-    let within : id - 4 < length definitions = slice_get_within definitions (id - 4) ops found in
-    let there : get_or definitions (id - 4) [] ≡ ops = get_or_from_slice_get definitions (id - 4) ops [] found in
-    second_chosen (eqb id 3) (unabbreviated room) (choose (ltb (id - 4) (length definitions)) (by_definition first room (get_or definitions (id - 4) [])) (refuses (at UndefinedAbbrev first))) a result b (ne_eqb id 3 other)
-    (first_chosen (ltb (id - 4) (length definitions)) (by_definition first room (get_or definitions (id - 4) [])) (refuses (at UndefinedAbbrev first)) a result b (lt-ltb (id - 4) (length definitions) within)
-    (rw there t))
-
-pub short_entry : (room first id : ℕ) (definitions : List (List Op)) (ops : List Op) (a : Reader) (result : Result CodeAndValues Fault) (b : Reader) → id ≢ 3 → slice_get definitions (id - 4) ≡ Some ops → has_shape ops ≡ true → Takes (abbreviated first room ops) a result b → Takes (entry room first id definitions) a result b
-unfolding by_definition
-short_entry room first id definitions ops a result b other found shape t = found_entry room first id definitions ops a result b other found (holds_then (has_shape ops) (at AbbrevShape first) (abbreviated first room ops) a result b shape t)
-
--- a definition without a shape
-pub shapeless_entry : (room first id : ℕ) (definitions : List (List Op)) (ops : List Op) (a : Reader) (fault : Fault) (b : Reader) → id ≢ 3 → slice_get definitions (id - 4) ≡ Some ops → Why (test (has_shape ops) (at AbbrevShape first)) a fault b → Why (entry room first id definitions) a fault b
-unfolding by_definition
-shapeless_entry room first id definitions ops a fault b other found why =
-    found_entry room first id definitions ops a (Err fault) b other found (fault_then (test (has_shape ops) (at AbbrevShape first)) (λ x. abbreviated first room ops) a fault b why)
-
-pub no_entry : (room first id : ℕ) (definitions : List (List Op)) (a : Reader) (fault : Fault) (b : Reader) → id ≢ 3 → slice_get definitions (id - 4) ≡ None → Why (test false (at UndefinedAbbrev first)) a fault b → Why (entry room first id definitions) a fault b
-unfolding entry
-no_entry room first id definitions a fault b other none why =
-    let past : ltb (id - 4) (length definitions) ≡ false = elim (by (ltb (id - 4) (length definitions)) refl) [
-      | inl past ↦ past
-      | inr contradiction ↦ absurd contradiction
-    ] in
-    let refused : Why (refuses {A = CodeAndValues} (at UndefinedAbbrev first)) a fault b = same_reading {A = CodeAndValues} (test false (at UndefinedAbbrev first) >>= λ x. refuses (at UndefinedAbbrev first)) (refuses (at UndefinedAbbrev first)) a (Err fault) b (λ p r. refl) (fault_then {B = CodeAndValues} (test false (at UndefinedAbbrev first)) (λ x. refuses (at UndefinedAbbrev first)) a fault b why) in
-    second_chosen (eqb id 3) (unabbreviated room) (choose (ltb (id - 4) (length definitions)) (by_definition first room (get_or definitions (id - 4) [])) (refuses (at UndefinedAbbrev first))) a (Err fault) b (ne_eqb id 3 other)
-    (second_chosen (ltb (id - 4) (length definitions)) (by_definition first room (get_or definitions (id - 4) [])) (refuses (at UndefinedAbbrev first)) a (Err fault) b past refused)
-  where
-    by : (b : Bool) → ltb (id - 4) (length definitions) ≡ b → (ltb (id - 4) (length definitions) ≡ false) ⊎ ⊥
-    by false is = inl is
-    by true is =
-        let some : None ≡ Some (get_or definitions (id - 4) []) = sym none ∙ slice_get-get_or definitions (id - 4) [] (ltb-true (id - 4) (length definitions) is) in
-        absurd cc
-
--- where a miss gives no reason, nothing is said if none is ready
-pub ready_or_missed : (M : Type 0) (definitions : List (List Op)) (id : ℕ) (ready : Option (Bor Abbrev)) → IfSome ready (λ one. slice_get definitions (id - 4) ≡ Some one.now) → IsDefinition {M = M} (λ miss fault. ⊥) definitions id (option_copied ready)
-ready_or_missed M definitions id None is = λ miss fault means. absurd means
-ready_or_missed M definitions id (Some one) is = is
-
--- what was found if each is found
-pub found_is : {M : Type 0} (faults : M → Fault → Type 0) (definitions : List (List Op)) (id : ℕ) (found : Option (List Op)) → found ≡ slice_get definitions (id - 4) → IsDefinition faults definitions id found
-found_is faults definitions id None is = λ miss fault means. sym is
-found_is faults definitions id (Some ops) is = sym is
-
--- what is said of a result for each fault that it means
-pub by_fault : {A : Type 0} (P : Result A Fault → Type 0) (result : Result A Fault) → Answers (λ (miss fault : Fault). fault ≡ miss) P result → P result
-by_fault P (Ok x) h = h
-by_fault P (Err fault) h = h fault refl
-
--- adding a record by one rule is adding it by another
-pub added_as : {V : Type 0} (took : V → List ℕ → Type 0) (v w : V) (rule other : Grammar CodeAndValues) (room : ℕ) (a b : Reader) → ((r : Result CodeAndValues Fault) → Takes rule a r b → Takes other a r b) → (result : Result ℕ Fault) → Gains took v w (AddsWithin rule room a result b) → Gains took v w (AddsWithin other room a result b)
-added_as took v w rule other room a b so (Ok code) gains = λ before t. let h = gains before t in (h.0, h.1, ((h.2.0.0, h.2.0.1, so (Ok (record { code = code; values = h.2.0.0 })) h.2.0.2), h.2.1))
-added_as took v w rule other room a b so (Err fault) gains = λ before t. let h = gains before t in (h.0, h.1, ((h.2.0.0, h.2.0.1, so (Err fault) h.2.0.2), tt))
-
--- a failure before a value is read
-pub fails_so : (rule : Grammar CodeAndValues) (room : ℕ) (a : Reader) (fault : Fault) (b : Reader) (before : List ℕ) → Why rule a fault b → AddsWithin rule room a (Err fault) b before before
-fails_so rule room a fault b before why = (([], sym (append-nil before), why), tt)
+-- a test that holds
+pub judged : (holds : Bool) (fault : grammar.Fault) (a : Reader) → holds ≡ true → a.live ≡ true → Took (test holds fault) a tt a
+judged holds fault a is live = same_reading (gives (tt {0})) (test holds fault) a (Ok (tt {0})) a (λ p r. rw is refl) (took_nothing (tt {0}) a live)
 
 -- ---- what a BLOCKINFO block describes
 
@@ -158,6 +75,59 @@ set_wrong info first code values a fault b set h =
 pub none_described : (first : ℕ) (e : CodeAndValues) (a : Reader) → a.live ≡ true → Took (describe None first e) a None a
 unfolding describe
 none_described first e a live = took_nothing None a live
+
+-- ---- the described block of the program
+
+-- a record that sets no block, behind one that did
+pub describes_on : (made : Table) (d : Describes) (first code : ℕ) (values : List ℕ) (r : Reader) → is_itself d ≡ false → may_define (info_shown made d) ≡ true → code ≢ 1 → r.live ≡ true → Took (describe (info_shown made d) first (record { code = code; values = values })) r (info_shown made d) r
+describes_on made Itself first code values r info may other live = absurd cc
+describes_on made NoneYet first code values r info may other live = absurd cc
+describes_on made (Block id) first code values r info may other live = other_took (record { described = Some id; made = made }) first code values r r other (judged true (at NoBlockSet first) r refl live)
+
+-- and where none was set
+pub describes_wrong : (made : Table) (d : Describes) (first code : ℕ) (values : List ℕ) (a : Reader) (fault : Fault) (b : Reader) → is_itself d ≡ false → may_define (info_shown made d) ≡ false → code ≢ 1 → Why (test false (at NoBlockSet first)) a fault b → Why (describe (info_shown made d) first (record { code = code; values = values })) a fault b
+describes_wrong made Itself first code values a fault b info may other h = absurd cc
+describes_wrong made NoneYet first code values a fault b info may other h = other_wrong (record { described = None; made = made }) first code values a fault b other h
+describes_wrong made (Block id) first code values a fault b info may other h = absurd cc
+
+-- a record that sets one
+pub describes_set : (made : Table) (d : Describes) (first code : ℕ) (values : List ℕ) (id : ℕ) (r : Reader) → is_itself d ≡ false → code ≡ 1 → described_id values ≡ Some id → r.live ≡ true → Took (describe (info_shown made d) first (record { code = code; values = values })) r (Some (record { described = Some id; made = made })) r
+describes_set made d first code values id r info set is live = go d info
+  where
+    some : is_some (described_id values) ≡ true
+    some = ap is_some is
+
+    one : (described : Option ℕ) → Took (describe (Some (record { described = described; made = made })) first (record { code = code; values = values })) r (Some (record { described = Some id; made = made })) r
+    one described = subst (λ (o : Option ℕ). Took (describe (Some (record { described = described; made = made })) first (record { code = code; values = values })) r (Some (record { described = o; made = made })) r) is
+        (set_took (record { described = described; made = made }) first code values r r set some (judged (is_some (described_id values)) (at BadSetBid first) r some live))
+
+    go : (d : Describes) → is_itself d ≡ false → Took (describe (info_shown made d) first (record { code = code; values = values })) r (Some (record { described = Some id; made = made })) r
+    go Itself e = absurd cc
+    go NoneYet e = one None
+    go (Block other) e = one (Some other)
+
+-- one that sets none that is one
+pub describes_bad : (made : Table) (d : Describes) (first code : ℕ) (values : List ℕ) (a : Reader) (fault : Fault) (b : Reader) → is_itself d ≡ false → code ≡ 1 → described_id values ≡ None → Why (test false (at BadSetBid first)) a fault b → Why (describe (info_shown made d) first (record { code = code; values = values })) a fault b
+describes_bad made d first code values a fault b info set is h = go d info
+  where
+    judged_so : Why (test (is_some (described_id values)) (at BadSetBid first)) a fault b
+    judged_so = subst (λ (t : Bool). Why (test t (at BadSetBid first)) a fault b) (sym (ap is_some is)) h
+
+    go : (d : Describes) → is_itself d ≡ false → Why (describe (info_shown made d) first (record { code = code; values = values })) a fault b
+    go Itself e = absurd cc
+    go NoneYet e = set_wrong (record { described = None; made = made }) first code values a fault b set judged_so
+    go (Block other) e = set_wrong (record { described = Some other; made = made }) first code values a fault b set judged_so
+
+-- a block that is no BLOCKINFO block describes none
+pub describes_plain : (made : Table) (d : Describes) (first : ℕ) (e : CodeAndValues) (a : Reader) → is_itself d ≡ true → a.live ≡ true → Took (describe (info_shown made d) first e) a (info_shown made d) a
+describes_plain made Itself first e a is live = none_described first e a live
+describes_plain made NoneYet first e a is live = absurd cc
+describes_plain made (Block id) first e a is live = absurd cc
+
+-- a judgement that fails, for a rule that it breaks
+pub judged_wrong : {A : Type 0} (rule : Grammar A) (wrong : grammar.Fault) (view : Unit {0} → A) (a : Reader) (result : Result (Unit {0}) Fault) (b : Reader) → Takes (test false wrong) a result b → OnOk result (false ≡ true) → ((fault : Fault) → Why (test false wrong) a fault b → Why rule a fault b) → Takes rule a (told_by view result) b
+judged_wrong rule wrong view a (Ok x) b t holds so = absurd (let no : false ≡ true = holds in cc)
+judged_wrong rule wrong view a (Err fault) b t holds so = so fault t
 
 -- ---- a definition
 

@@ -1,7 +1,5 @@
-pub mod Entering
 pub mod Framing
 pub mod Stepping
-pub mod Lending
 pub mod Telling
 pub mod Behind
 pub mod Advancing
@@ -14,7 +12,6 @@ pub mod Runs
 pub mod Blocks
 pub mod Counting
 pub mod PlacedHeads
-pub mod InSlices
 pub mod Kept
 pub mod Standings
 mod Named
@@ -22,3 +19,10 @@ pub mod Rest
 pub mod PassedOver
 pub mod PassedEvents
 pub mod FewRecords
+pub mod Machines
+pub mod Rooms
+pub mod PlacedSteps
+pub mod Finding
+pub mod Definables
+pub mod LookedAt
+pub mod Widths

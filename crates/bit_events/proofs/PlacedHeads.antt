@@ -22,7 +22,7 @@ use Rattle.bit_fields.proofs.LentParts.{pad_reads, parts_is}
 use Rattle.bit_fields.proofs.Loading.{front_again}
 use Rattle.bit_fields.proofs.Parts.{part_at}
 use Rattle.bit_fields.proofs.Placing.{fixed_shown, length_at}
-use Rattle.bit_events.proofs.Blocks.{judged}
+use Rattle.bit_events.proofs.Framing.{judged}
 use Rattle.bit_events.proofs.Telling.{told, andThen, ends, here}
 
 -- positions of placed bits are below 2^64

@@ -1,13 +1,13 @@
 -- One step of the machine: what its parts take by the rule for a step.
-use Rattle.std.proofs.Common.{◌≡◌, ℕ, zero, suc, ◌+◌, ◌<◌, ◌≤◌, Bool, true, false, not, is_some, eqb, ltb, List, [], ◌∷◌, ◌++◌, length, get_or, take, set, Option, Some, None, Result, Ok, Err, IsSome, is_none, refl, sym, ap, ◌∙◌, subst, arith}
+use Rattle.std.proofs.Common.{◌≡◌, ℕ, zero, suc, ◌+◌, ◌-◌, ◌<◌, ◌≤◌, Bool, true, false, not, eqb, ltb, List, [], ◌∷◌, ◌++◌, length, vec_len, get_or, take, drop, set, Option, Some, None, Result, Ok, Err, IsSome, is_none, refl, sym, ap, ◌∙◌, subst, arith}
 use Rattle.std.specs.Prelude.{unwrap_or, IfOk, OnOk}
 use Rattle.std.proofs.lemmas.Bool.{ne_eqb}
-use Rattle.std.specs.declared.alloc.AllocError.{AllocError}
 use Rattle.bit_grammar.specs.declared.shapes.Shapes.{Shapes}
 use Rattle.bit_grammar.specs.declared.op.Op.{Op}
 use Rattle.bit_grammar.specs.declared.reason.Reason.TheVariants.{TooDeep, TopLevel, NestedInBlockInfo}
 use Rattle.bit_grammar.specs.Grammar.{at, test}
 use Rattle.bit_grammar.specs.Fields.{fixed}
+use Rattle.bit_grammar.specs.Terms.{Table}
 use Rattle.bit_grammar.specs.Marks.{RecordMark, DefinitionMark}
 use Rattle.bit_grammar.specs.Blocks as blocks
 use Rattle.bit_grammar.specs.Blocks.{Limits, Handed, Scope, block_head, end_of_block, define, record_after, enter, leave}
@@ -16,79 +16,138 @@ use Rattle.bit_grammar.specs.Machine.{Event, enters, defines, notes, leaves, sco
 use Rattle.bit_fields.specs.declared.fault.Fault.{Fault}
 use Rattle.bit_fields.specs.declared.fault.Fault.TheVariants.{Memory}
 use Rattle.bit_fields.specs.Reader.{Reader, Took, Why, Takes, failed_reader}
+use Rattle.bit_abbrev.specs.InfoTables.{table_in}
+use Rattle.bit_abbrev.specs.BlockMarks.{blocks_in, blocks_of, in_force, own_of}
 use Rattle.bit_events.specs.declared.frame.Frame.{Frame}
-use Rattle.bit_events.specs.declared.frame.Describing.{Describing}
 use Rattle.bit_events.specs.declared.machine.Machine.{Machine}
 use Rattle.bit_events.specs.declared.machine.Step.{Step}
-use Rattle.bit_events.specs.declared.machine.Step.TheVariants.{Define}
 use Rattle.bit_events.specs.declared.machine.Step.TheVariants as found
-use Rattle.bit_events.specs.HeadView.{head_shown}
-use Rattle.bit_abbrev.specs.Ready.{either}
-use Rattle.bit_events.specs.FrameView.{info_shown, frame_shown, newest_in, ready_in, frames_onto, frames_shown}
-use Rattle.bit_events.specs.MachineView.{newest, lent, step_shown, KeepsValues, innermost_head, HoldsDefinition, LeavesMachine, end_rule, define_rule, record_rule}
+use Rattle.bit_events.specs.FrameView.{frame_shown, frames_in, inner_first, marks_in, onto}
+use Rattle.bit_events.specs.MachineView.{frames_shown, marks_of, open_in, is_info, InPlain, KeepsValues, LeavesMachine, end_rule, define_rule, record_rule}
 use Rattle.bit_events.proofs.Telling.{told, why, answers, andThen, breaks, ends, here, first_rule, second_rule, without_memory}
 
 -- ---- the open blocks
 
-frames_onto-push : (frames : List Frame) (f : Frame) (outer : List machine.Frame) → frames_onto (frames ++ f ∷ []) outer ≡ frame_shown f ∷ frames_onto frames outer
-frames_onto-push [] f outer = refl
-frames_onto-push (first ∷ frames) f outer = frames_onto-push frames f (frame_shown first ∷ outer)
+onto-push : (frames : List Frame) (f : Frame) (outer : List Frame) → onto (frames ++ f ∷ []) outer ≡ f ∷ onto frames outer
+onto-push [] f outer = refl
+onto-push (first ∷ frames) f outer = onto-push frames f (first ∷ outer)
 
 -- one more block is open
-pub frames-push : (frames : List Frame) (f : Frame) → frames_shown (frames ++ f ∷ []) ≡ frame_shown f ∷ frames_shown frames
-frames-push frames f = frames_onto-push frames f []
+pub inner-push : (frames : List Frame) (f : Frame) → inner_first (frames ++ f ∷ []) ≡ f ∷ inner_first frames
+inner-push frames f = onto-push frames f []
 
-frames_onto-last : (frames : List Frame) (k : ℕ) (f : Frame) (outer : List machine.Frame) → length frames ≡ suc k → f ≡ get_or frames k f → frames_onto frames outer ≡ frame_shown f ∷ frames_onto (take k frames) outer
-frames_onto-last [] k f outer n is = absurd (omega arith)
-frames_onto-last (a ∷ []) zero f outer n is = ap (λ (x : Frame). frame_shown x ∷ outer) (sym is)
-frames_onto-last (a ∷ []) (suc k) f outer n is = absurd (omega arith)
-frames_onto-last (a ∷ b ∷ frames) zero f outer n is = absurd (omega arith)
-frames_onto-last (a ∷ b ∷ frames) (suc k) f outer n is = frames_onto-last (b ∷ frames) k f (frame_shown a ∷ outer) (omega arith) is
+onto-last : (frames : List Frame) (k : ℕ) (f : Frame) (outer : List Frame) → length frames ≡ suc k → f ≡ get_or frames k f → onto frames outer ≡ f ∷ onto (take k frames) outer
+onto-last [] k f outer n is = absurd (omega arith)
+onto-last (a ∷ []) zero f outer n is = ap (λ (x : Frame). x ∷ outer) (sym is)
+onto-last (a ∷ []) (suc k) f outer n is = absurd (omega arith)
+onto-last (a ∷ b ∷ frames) zero f outer n is = absurd (omega arith)
+onto-last (a ∷ b ∷ frames) (suc k) f outer n is = onto-last (b ∷ frames) k f (a ∷ outer) (omega arith) is
 
-frames_onto-set : (frames : List Frame) (k : ℕ) (new : Frame) (outer : List machine.Frame) → length frames ≡ suc k → frames_onto (set frames k new) outer ≡ frame_shown new ∷ frames_onto (take k frames) outer
-frames_onto-set [] k new outer n = absurd (omega arith)
-frames_onto-set (a ∷ []) zero new outer n = refl
-frames_onto-set (a ∷ []) (suc k) new outer n = absurd (omega arith)
-frames_onto-set (a ∷ b ∷ frames) zero new outer n = absurd (omega arith)
-frames_onto-set (a ∷ b ∷ frames) (suc k) new outer n = frames_onto-set (b ∷ frames) k new (frame_shown a ∷ outer) (omega arith)
+onto-set : (frames : List Frame) (k : ℕ) (new : Frame) (outer : List Frame) → length frames ≡ suc k → onto (set frames k new) outer ≡ new ∷ onto (take k frames) outer
+onto-set [] k new outer n = absurd (omega arith)
+onto-set (a ∷ []) zero new outer n = refl
+onto-set (a ∷ []) (suc k) new outer n = absurd (omega arith)
+onto-set (a ∷ b ∷ frames) zero new outer n = absurd (omega arith)
+onto-set (a ∷ b ∷ frames) (suc k) new outer n = onto-set (b ∷ frames) k new (a ∷ outer) (omega arith)
 
--- the innermost block
-pub innermost : (frames : List Frame) (k : ℕ) (f : Frame) (shown : machine.Frame) (outer : List machine.Frame) → length frames ≡ suc k → f ≡ get_or frames k f → frames_shown frames ≡ shown ∷ outer → frame_shown f ≡ shown
-innermost frames k f shown outer n is split =
-    let e : frame_shown f ∷ frames_onto (take k frames) [] ≡ shown ∷ outer = sym (frames_onto-last frames k f [] n is) ∙ split in
-    cc
+-- the last block is the innermost one
+pub inner_is : (frames : List Frame) (k : ℕ) (f : Frame) → length frames ≡ suc k → f ≡ get_or frames k f → inner_first frames ≡ f ∷ inner_first (take k frames)
+inner_is frames k f n is = onto-last frames k f [] n is
 
--- the blocks around it
-pub blocks_round : (frames : List Frame) (k : ℕ) (f : Frame) (shown : machine.Frame) (outer : List machine.Frame) → length frames ≡ suc k → f ≡ get_or frames k f → frames_shown frames ≡ shown ∷ outer → frames_onto (take k frames) [] ≡ outer
-blocks_round frames k f shown outer n is split =
-    let e : frame_shown f ∷ frames_onto (take k frames) [] ≡ shown ∷ outer = sym (frames_onto-last frames k f [] n is) ∙ split in
-    cc
+-- another innermost block replaces it
+pub inner_set : (frames : List Frame) (k : ℕ) (new : Frame) → length frames ≡ suc k → inner_first (set frames k new) ≡ new ∷ inner_first (take k frames)
+inner_set frames k new n = onto-set frames k new [] n
 
--- another innermost block replaces one
-pub frames-set : (frames : List Frame) (k : ℕ) (f new : Frame) (shown : machine.Frame) (outer : List machine.Frame) → length frames ≡ suc k → f ≡ get_or frames k f → frames_shown frames ≡ shown ∷ outer → frames_shown (set frames k new) ≡ frame_shown new ∷ outer
-frames-set frames k f new shown outer n is split = frames_onto-set frames k new [] n ∙ ap (λ (others : List machine.Frame). frame_shown new ∷ others) (blocks_round frames k f shown outer n is split)
+rest-onto : (frames outer : List Frame) (k : ℕ) (f : Frame) (others : List Frame) → length frames ≡ suc k → onto frames outer ≡ f ∷ others → onto (take k frames) outer ≡ others
+rest-onto [] outer k f others n is = absurd (omega arith)
+rest-onto (a ∷ []) outer zero f others n is = cc
+rest-onto (a ∷ []) outer (suc k) f others n is = absurd (omega arith)
+rest-onto (a ∷ b ∷ frames) outer zero f others n is = absurd (omega arith)
+rest-onto (a ∷ b ∷ frames) outer (suc k) f others n is = rest-onto (b ∷ frames) (a ∷ outer) k f others (omega arith) is
 
--- without the innermost block
-pub frames-pop : (frames others : List Frame) (f : Frame) (shown : machine.Frame) (outer : List machine.Frame) → frames ≡ others ++ f ∷ [] → frames_shown frames ≡ shown ∷ outer → (frame_shown f ≡ shown) × (frames_shown others ≡ outer)
-frames-pop frames others f shown outer is split =
-    let e : frame_shown f ∷ frames_shown others ≡ shown ∷ outer = sym (frames-push others f) ∙ ap frames_shown (sym is) ∙ split in
-    (cc, cc)
+length-onto : (frames outer : List Frame) → length (onto frames outer) ≡ length frames + length outer
+length-onto [] outer = omega arith
+length-onto (f ∷ frames) outer = omega (arith, length-onto frames (f ∷ outer))
 
-length-frames_onto : (frames : List Frame) (outer : List machine.Frame) → length (frames_onto frames outer) ≡ length frames + length outer
-length-frames_onto [] outer = omega arith
-length-frames_onto (f ∷ frames) outer = omega (arith, length-frames_onto frames (frame_shown f ∷ outer))
+length-in : (made : Table) (blocks : List (List (List Op))) (frames : List Frame) → length (frames_in made blocks frames) ≡ length frames
+length-in made blocks [] = refl
+length-in made blocks (f ∷ outer) = ap suc (length-in made (drop 1 blocks) outer)
 
-pub length-frames : (frames : List Frame) → length (frames_shown frames) ≡ length frames
-length-frames frames = omega (arith, length-frames_onto frames [])
+pub length-frames : (m : Machine) → length (frames_shown m) ≡ vec_len m.frames
+length-frames m = omega (arith, length-in (table_in m.definitions.made) (blocks_of m.definitions (marks_of m)) (open_in m), length-onto m.frames.items [], m.frames.ok.0)
+
+nothing : {A : Type 0} (xs : List A) → length xs ≡ 0 → xs ≡ []
+nothing [] e = refl
+nothing (x ∷ xs) e = absurd (omega arith)
 
 -- no block is open
-pub frames-none : (frames : List Frame) → length frames ≡ 0 → frames_shown frames ≡ []
-frames-none [] n = refl
-frames-none (f ∷ frames) n = absurd (omega arith)
+pub none_open : (m : Machine) → vec_len m.frames ≡ 0 → open_in m ≡ []
+none_open m none = nothing (open_in m) (omega (arith, length-onto m.frames.items [], m.frames.ok.0, none))
 
--- some block is open
-pub frames-some : (frames : List Frame) (k : ℕ) (f : Frame) → length frames ≡ suc k → f ≡ get_or frames k f → frames_shown frames ≡ frame_shown f ∷ frames_onto (take k frames) []
-frames-some frames k f n is = frames_onto-last frames k f [] n is
+pub shown_none : (m : Machine) → vec_len m.frames ≡ 0 → frames_shown m ≡ []
+shown_none m none = nothing (frames_shown m) (omega (arith, length-frames m, none))
+
+-- if none is held, none is shown
+pub nothing_shown : (m : Machine) → open_in m ≡ [] → frames_shown m ≡ []
+nothing_shown m none = ap (λ (frames : List Frame). frames_in (table_in m.definitions.made) (blocks_of m.definitions (marks_in frames)) frames) none
+
+pub none_shown : (m : Machine) → frames_shown m ≡ [] → vec_len m.frames ≡ 0
+none_shown m none = sym (length-frames m) ∙ ap length none
+
+pub some_shown : (m : Machine) (f : machine.Frame) (outer : List machine.Frame) → frames_shown m ≡ f ∷ outer → 0 < vec_len m.frames
+some_shown m f outer split = omega (arith, length-frames m, ap length split)
+
+pub none_plain : (m : Machine) → vec_len m.frames ≡ 0 → InPlain m
+none_plain m none = ap is_info (none_open m none)
+
+pub not_zero : (n : ℕ) → (n ≡ 0 → ⊥) → 0 < n
+not_zero zero h = absurd (h refl)
+not_zero (suc n) h = omega arith
+
+-- a block is first if one is open
+pub record First (m : Machine) : Type 0 where
+  pub f : machine.Frame
+  pub outer : List machine.Frame
+  pub split : frames_shown m ≡ f ∷ outer
+
+first_of : (frames : List machine.Frame) → 0 < length frames → (f : machine.Frame) × (outer : List machine.Frame) × (frames ≡ f ∷ outer)
+first_of [] some = absurd (omega arith)
+first_of (f ∷ outer) some = (f, outer, refl)
+
+pub first_shown : (m : Machine) → 0 < vec_len m.frames → First m
+first_shown m some = (let one = first_of (frames_shown m) (omega (arith, some, length-frames m)) in record { f = one.0; outer = one.1; split = one.2 })
+
+-- the last block of a machine is the innermost one
+pub open_last : (m : Machine) (f : Frame) → 0 < length m.frames.items → f ≡ get_or m.frames.items (length m.frames.items - 1) f → open_in m ≡ f ∷ inner_first (take (length m.frames.items - 1) m.frames.items)
+open_last m f some is = inner_is m.frames.items (length m.frames.items - 1) f (omega (arith, some)) is
+
+pub open_last_of : (m : Machine) (f : Frame) → 0 < vec_len m.frames → f ≡ get_or m.frames.items (vec_len m.frames - 1) f → open_in m ≡ f ∷ inner_first (take (vec_len m.frames - 1) m.frames.items)
+open_last_of m f some is = inner_is m.frames.items (vec_len m.frames - 1) f (omega (arith, some, m.frames.ok.0)) is
+
+-- another block replaces the last one
+pub open_set : (m : Machine) (new : Frame) → 0 < vec_len m.frames → inner_first (set m.frames.items (vec_len m.frames - 1) new) ≡ new ∷ inner_first (take (vec_len m.frames - 1) m.frames.items)
+open_set m new some = inner_set m.frames.items (vec_len m.frames - 1) new (omega (arith, some, m.frames.ok.0))
+
+-- without the last block those around it are left
+pub rest_open : (m : Machine) (rest : List Frame) (f : Frame) (others : List Frame) → open_in m ≡ f ∷ others → rest ≡ take (vec_len m.frames - 1) m.frames.items → inner_first rest ≡ others
+rest_open m rest f others is same =
+    let k = vec_len m.frames - 1 in
+    let n : length m.frames.items ≡ suc k = omega (arith, m.frames.ok.0, length-onto m.frames.items [], ap length is) in
+    ap inner_first same ∙ rest-onto m.frames.items [] k f others n is
+
+-- the innermost block, and those around it
+pub record Inner (m : Machine) (f : Frame) (others : List Frame) (shown : machine.Frame) (outer : List machine.Frame) : Type 0 where
+  pub is : shown ≡ frame_shown (table_in m.definitions.made) (in_force m.definitions f.marks) f
+  pub around : outer ≡ frames_in (table_in m.definitions.made) (blocks_in (take f.marks.heads (own_of m.definitions)) m.definitions.tables.items (marks_in others)) others
+
+pub inner_shown : (m : Machine) (f : Frame) (others : List Frame) → open_in m ≡ f ∷ others → frames_shown m
+    ≡ frame_shown (table_in m.definitions.made) (in_force m.definitions f.marks) f ∷ frames_in (table_in m.definitions.made) (blocks_in (take f.marks.heads (own_of m.definitions)) m.definitions.tables.items (marks_in others)) others
+inner_shown m f others is = ap (λ (frames : List Frame). frames_in (table_in m.definitions.made) (blocks_of m.definitions (marks_in frames)) frames) is
+
+pub inner_of : (m : Machine) (f : Frame) (others : List Frame) (shown : machine.Frame) (outer : List machine.Frame) → open_in m ≡ f ∷ others → frames_shown m ≡ shown ∷ outer → Inner m f others shown outer
+inner_of m f others shown outer is split =
+    let e = sym split ∙ inner_shown m f others is in
+    record { is = cc; around = cc }
 
 -- ---- a block's beginning
 
@@ -187,141 +246,18 @@ pub after_record : (limits : Limits) (f : machine.Frame) (outer : List machine.F
 unfolding step_after
 after_record limits f outer first id handed a result b no_end no_block no_definition t = told (step_after limits f.head outer first (scope_of f handed) id) a result b (second_rule no_end (second_rule no_block (second_rule no_definition (answers t))))
 
--- ---- the innermost block, in the program's state
+-- ---- the effect of a call
 
-is_none-shown : (info : Option Describing) → is_none info ≡ is_none (info_shown info)
-is_none-shown None = refl
-is_none-shown (Some d) = refl
-
-not-not : (b : Bool) → b ≡ not (not b)
-not-not true = refl
-not-not false = refl
-
-pub plain_is : (frames : List Frame) (k : ℕ) (f : Frame) (plain : Bool) (shown : machine.Frame) (outer : List machine.Frame) → length frames ≡ suc k → f ≡ get_or frames k f → is_some f.info ≡ not plain → frames_shown frames ≡ shown ∷ outer → plain ≡ is_none shown.info
-plain_is frames k f plain shown outer n is e split = not-not plain ∙ ap not (sym e) ∙ is_none-shown f.info ∙ ap (λ (x : machine.Frame). is_none x.info) (innermost frames k f shown outer n is split)
-
--- what is lent of the innermost block
-lent-last : (made : Option (List Op)) (frames : List Frame) (k : ℕ) (f : Frame) → length frames ≡ suc k → f ≡ get_or frames k f → lent made frames ≡ either made (ready_in f)
-lent-last made [] k f n is = absurd (omega arith)
-lent-last made (a ∷ []) zero f n is = ap (λ (x : Frame). either made (ready_in x)) (sym is)
-lent-last made (a ∷ []) (suc k) f n is = absurd (omega arith)
-lent-last made (a ∷ b ∷ frames) zero f n is = absurd (omega arith)
-lent-last made (a ∷ b ∷ frames) (suc k) f n is = lent-last made (b ∷ frames) k f (omega arith) is
-
--- the newest definition of the innermost block
-newest-last : (frames : List Frame) (k : ℕ) (f : Frame) → length frames ≡ suc k → f ≡ get_or frames k f → newest frames ≡ newest_in f
-newest-last [] k f n is = absurd (omega arith)
-newest-last (a ∷ []) zero f n is = ap newest_in (sym is)
-newest-last (a ∷ []) (suc k) f n is = absurd (omega arith)
-newest-last (a ∷ b ∷ frames) zero f n is = absurd (omega arith)
-newest-last (a ∷ b ∷ frames) (suc k) f n is = newest-last (b ∷ frames) k f (omega arith) is
-
--- one that is ready
-pub ready_is : (frames : List Frame) (k : ℕ) (f : Frame) (found : Option (List Op)) → length frames ≡ suc k → f ≡ get_or frames k f → found ≡ ready_in f → found ≡ lent None frames
-ready_is frames k f found n is same = same ∙ sym (lent-last None frames k f n is)
-
--- one that was made
-pub made_is : (frames : List Frame) (k : ℕ) (f : Frame) (result : Result (Option (List Op)) AllocError) → length frames ≡ suc k → f ≡ get_or frames k f → IfOk result (λ made. either made (ready_in f) ≡ newest_in f) → IfOk result (λ made. lent made frames ≡ newest frames)
-made_is frames k f (Ok made) n is same = lent-last made frames k f n is ∙ same ∙ sym (newest-last frames k f n is)
-made_is frames k f (Err e) n is same = tt
-
--- what was made is lent
-pub some_lent : (ops : List Op) (frames : List Frame) → Some ops ≡ lent (Some ops) frames
-some_lent ops [] = refl
-some_lent ops (f ∷ []) = refl
-some_lent ops (f ∷ g ∷ frames) = some_lent ops (g ∷ frames)
-
-pub newest_set : (frames : List Frame) (k : ℕ) (new : Frame) → length frames ≡ suc k → newest (set frames k new) ≡ newest_in new
-newest_set [] k new n = absurd (omega arith)
-newest_set (a ∷ []) zero new n = refl
-newest_set (a ∷ []) (suc k) new n = absurd (omega arith)
-newest_set (a ∷ b ∷ frames) zero new n = absurd (omega arith)
-newest_set (a ∷ b ∷ []) (suc zero) new n = refl
-newest_set (a ∷ b ∷ []) (suc (suc k)) new n = absurd (omega arith)
-newest_set (a ∷ b ∷ d ∷ frames) (suc zero) new n = absurd (omega arith)
-newest_set (a ∷ b ∷ d ∷ frames) (suc (suc k)) new n = newest_set (b ∷ d ∷ frames) (suc k) new (omega arith)
-
--- the machine with another innermost block
-pub set_inside : (frames : List Frame) (k : ℕ) (f new : Frame) (shown : machine.Frame) (outer : List machine.Frame) (handed : Handed) → length frames ≡ suc k → f ≡ get_or frames k f → frames_shown frames ≡ shown ∷ outer → new.head ≡ f.head
-    → record { frames = frames_shown (set frames k new); handed = handed } ≡ inside shown.head outer (scope_of (frame_shown new) handed)
-set_inside frames k f new shown outer handed n is split same =
-    let head : head_shown new.head ≡ shown.head = ap head_shown same ∙ ap (λ (x : machine.Frame). x.head) (innermost frames k f shown outer n is split) in
-    rw (frames-set frames k f new shown outer n is split, ← head) refl
-
--- ---- the parts of a step, by the innermost block as it is held
-
-pub held_define_missed : (shapes : Shapes) (frames : List Frame) (k : ℕ) (f : Frame) (shown : machine.Frame) (outer : List machine.Frame) (first : ℕ) (handed : Handed) (a : Reader) (fault : Fault) (b : Reader) → length frames ≡ suc k → f ≡ get_or frames k f → frames_shown frames ≡ shown ∷ outer
-    → Why (define shapes first (scope_of (frame_shown f) handed)) a fault b → Why (define_rule shapes shown outer first handed) a fault b
-held_define_missed shapes frames k f shown outer first handed a fault b n is split h =
-    define_missed shapes shown outer first handed a fault b (subst (λ (x : machine.Frame). Why (define shapes first (scope_of x handed)) a fault b) (innermost frames k f shown outer n is split) h)
-
-pub held_define_took : (shapes : Shapes) (frames : List Frame) (k : ℕ) (f new : Frame) (shown : machine.Frame) (outer : List machine.Frame) (first : ℕ) (handed : Handed) (a : Reader) (mark : DefinitionMark) (b : Reader) → length frames ≡ suc k → f ≡ get_or frames k f → frames_shown frames ≡ shown ∷ outer → new.head ≡ f.head
-    → Took (define shapes first (scope_of (frame_shown f) handed)) a (mark, scope_of (frame_shown new) handed) b → Took (define_rule shapes shown outer first handed) a (defines mark, record { frames = frames_shown (set frames k new); handed = handed }) b
-held_define_took shapes frames k f new shown outer first handed a mark b n is split same t =
-    define_took shapes shown outer first handed a mark (scope_of (frame_shown new) handed) b (record { frames = frames_shown (set frames k new); handed = handed })
-    (subst (λ (x : machine.Frame). Took (define shapes first (scope_of x handed)) a (mark, scope_of (frame_shown new) handed) b) (innermost frames k f shown outer n is split) t)
-    (set_inside frames k f new shown outer handed n is split same)
-
-pub held_record_missed : (limit : ℕ) (frames : List Frame) (k : ℕ) (f : Frame) (shown : machine.Frame) (outer : List machine.Frame) (first id : ℕ) (handed : Handed) (a : Reader) (fault : Fault) (b : Reader) → length frames ≡ suc k → f ≡ get_or frames k f → frames_shown frames ≡ shown ∷ outer
-    → Why (record_after limit first id (scope_of (frame_shown f) handed)) a fault b → Why (record_rule limit shown outer first id handed) a fault b
-held_record_missed limit frames k f shown outer first id handed a fault b n is split h =
-    record_missed limit shown outer first id handed a fault b (subst (λ (x : machine.Frame). Why (record_after limit first id (scope_of x handed)) a fault b) (innermost frames k f shown outer n is split) h)
-
-pub held_record_took : (limit : ℕ) (frames : List Frame) (k : ℕ) (f new : Frame) (shown : machine.Frame) (outer : List machine.Frame) (first id : ℕ) (handed more made : Handed) (a : Reader) (mark : RecordMark) (b : Reader) → length frames ≡ suc k → f ≡ get_or frames k f → frames_shown frames ≡ shown ∷ outer → new.head ≡ f.head → made ≡ more
-    → Took (record_after limit first id (scope_of (frame_shown f) handed)) a (mark, scope_of (frame_shown new) more) b → Took (record_rule limit shown outer first id handed) a (notes mark, record { frames = frames_shown (set frames k new); handed = made }) b
-held_record_took limit frames k f new shown outer first id handed more made a mark b n is split same same_made t =
-    rw same_made (record_took limit shown outer first id handed a mark (scope_of (frame_shown new) more) b (record { frames = frames_shown (set frames k new); handed = more })
-    (subst (λ (x : machine.Frame). Took (record_after limit first id (scope_of x handed)) a (mark, scope_of (frame_shown new) more) b) (innermost frames k f shown outer n is split) t)
-    (set_inside frames k f new shown outer more n is split same))
-
-pub held_end_missed : (frames others : List Frame) (f : Frame) (shown : machine.Frame) (outer : List machine.Frame) (handed : Handed) (a : Reader) (fault : Fault) (b : Reader) → frames ≡ others ++ f ∷ [] → frames_shown frames ≡ shown ∷ outer
-    → Why (end_of_block (head_shown f.head)) a fault b → Why (end_rule shown outer handed) a fault b
-held_end_missed frames others f shown outer handed a fault b is split h =
-    let popped = frames-pop frames others f shown outer is split in
-    end_missed shown outer handed a fault b (subst (λ (x : machine.Frame). Why (end_of_block x.head) a fault b) popped.0 h)
-
-pub held_end_lost : (frames others : List Frame) (f : Frame) (shown : machine.Frame) (outer : List machine.Frame) (handed : Handed) (a : Reader) (after : ℕ) (b c : Reader) → frames ≡ others ++ f ∷ [] → frames_shown frames ≡ shown ∷ outer
-    → Took (end_of_block (head_shown f.head)) a after b → c ≡ failed_reader b → Why (end_rule shown outer handed) a Memory c
-held_end_lost frames others f shown outer handed a after b c is split t lost =
-    let popped = frames-pop frames others f shown outer is split in
-    end_lost shown outer handed a after b c (subst (λ (x : machine.Frame). Took (end_of_block x.head) a after b) popped.0 t) lost
-
-pub held_end_took : (frames others : List Frame) (f : Frame) (shown : machine.Frame) (outer : List machine.Frame) (handed : Handed) (a : Reader) (after : ℕ) (b c : Reader) (new : machine.Machine) → frames ≡ others ++ f ∷ [] → frames_shown frames ≡ shown ∷ outer
-    → Took (end_of_block (head_shown f.head)) a after b → c ≡ b → new ≡ record { frames = frames_shown others; handed = leave (info_shown f.info) handed } → Took (end_rule shown outer handed) a (leaves after, new) c
-held_end_took frames others f shown outer handed a after b c new is split t same made =
-    let popped = frames-pop frames others f shown outer is split in
-    let left : record { frames = frames_shown others; handed = leave (info_shown f.info) handed } ≡ record { frames = outer; handed = leave shown.info handed } = rw (popped.1, ← popped.0) refl in
-    end_took shown outer handed a after b c new (subst (λ (x : machine.Frame). Took (end_of_block x.head) a after b) popped.0 t) same (made ∙ left)
-
--- ---- the head of the innermost block
-
--- it is that of the last block held
-pub head_held : (frames : List Frame) (k : ℕ) (f : Frame) → length frames ≡ suc k → f ≡ get_or frames k f → Some (head_shown f.head) ≡ innermost_head (frames_shown frames)
-head_held frames k f n is = sym (ap innermost_head (frames-some frames k f n is))
-
--- a block is first if its head is known
-pub record Innermost (frames : List machine.Frame) (head : blocks.BlockHead) : Type 0 where
-  pub f : machine.Frame
-  pub outer : List machine.Frame
-  pub split : frames ≡ f ∷ outer
-  pub is : f.head ≡ head
-
-pub innermost_of : (frames : List machine.Frame) (head : blocks.BlockHead) → Some head ≡ innermost_head frames → Innermost frames head
-innermost_of [] head e = absurd cc
-innermost_of (f ∷ outer) head e = record { f = f; outer = outer; split = refl; is = cc }
-
--- ---- what a definition leaves
-
-newest_some : (o : Option (List Op)) → IsSome o → o ≡ Some (unwrap_or o [])
+pub newest_some : (o : Option (List Op)) → IsSome o → o ≡ Some (unwrap_or o [])
 newest_some None some = absurd cc
 newest_some (Some ops) some = refl
 
-pub definition_held : (m : Machine) (list : List ℕ) (first after : ℕ) → IsSome (newest m.frames.items) → HoldsDefinition m (step_shown m list (Define first after))
-definition_held m list first after some = newest_some (newest m.frames.items) some
+pub leaves_later : {deepest : ℕ} {old new : Machine} {event : Event} (a b c : Reader) → a.position ≤ b.position → LeavesMachine deepest old b event new c → LeavesMachine deepest old a event new c
+leaves_later a b c forward left = record { stands = left.stands; opens = left.opens; forward = omega (arith, forward, left.forward); aligned = left.aligned; holds = left.holds; limits = left.limits; sound = left.sound }
 
 -- the effect of a call that began later
 pub left_later : {X : Type 0} (deepest : ℕ) (old : Machine) (a b : Reader) (event : X → Event) (new : Machine) (c : Reader) (result : Result X Fault) → a.position ≤ b.position → IfOk result (λ x. LeavesMachine deepest old b (event x) new c) → IfOk result (λ x. LeavesMachine deepest old a (event x) new c)
-left_later deepest old a b event new c (Ok x) forward left = record { stands = left.stands; opens = left.opens; forward = omega (arith, forward, left.forward); aligned = left.aligned; holds = left.holds }
+left_later deepest old a b event new c (Ok x) forward left = record { stands = left.stands; opens = left.opens; forward = omega (arith, forward, left.forward); aligned = left.aligned; holds = left.holds; limits = left.limits; sound = left.sound }
 left_later deepest old a b event new c (Err fault) forward left = tt
 
 pub moved_later : {X : Type 0} (deepest : ℕ) (old : Machine) (a b : Reader) (event : X → Event) (new : Machine) (c : Reader) (result : Result X Fault) → a.position < b.position → IfOk result (λ x. LeavesMachine deepest old b (event x) new c) → OnOk result (a.position < c.position)
@@ -331,7 +267,7 @@ moved_later deepest old a b event new c (Err fault) forward left = tt
 -- ---- the value sink
 
 -- an unused value sink stays
-kept : {V : Type 0} (v : V) (step : Step) → KeepsValues step v v
+pub kept : {V : Type 0} (v : V) (step : Step) → KeepsValues step v v
 kept v (found.Enter body first id width) = refl
 kept v (found.Define first after) = refl
 kept v (found.Record head) = tt

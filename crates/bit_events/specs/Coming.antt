@@ -9,7 +9,7 @@ use Rattle.bit_grammar.specs.Machine.{Event, enters, defines, notes, leaves, Mac
 use Rattle.bit_grammar.specs.Steps.{MayStand, open_after}
 use Rattle.bit_fields.specs.declared.fault.Fault.{Fault}
 use Rattle.bit_fields.specs.declared.fault.Fault.TheVariants.{Refused, Read, Write, Memory, OutputTooLong, Failed}
-use Rattle.bit_fields.specs.Devices.{Incoming, Spends, Fails, known_bytes}
+use Rattle.bit_fields.specs.Devices.{Incoming, Looked, Spends, Fails, known_bytes}
 use Rattle.bit_fields.specs.Reader.{Reader, Extent, is_cut, within}
 use Rattle.bit_fields.specs.Ending.{FillsStream, verdict}
 use Rattle.bit_events.specs.Gathering.{open_behind}
@@ -156,6 +156,19 @@ Goes old (Ok None) new = EndsEvents old new
 Goes old (Err fault) new = BreaksOff old fault new
 
 -- ---- events that are passed over
+
+-- nothing was read, and the source was at most looked at
+pub record OnlyLooksAt (old new : Coming) : Type 0 where
+  pub stage : new.stage ≡ old.stage
+  pub head : new.head ≡ old.head
+  pub depth : new.depth ≡ old.depth
+  pub deepest : new.deepest ≡ old.deepest
+  pub held : new.held ≡ old.held
+  pub last : new.last ≡ old.last
+  pub position : new.position ≡ old.position
+  pub budget : new.budget ≡ old.budget
+  pub looked : Looked old.incoming new.incoming
+  pub told : TellsComing old → new.told ≡ old.told
 
 -- so many events were passed over
 pub record PassesEvents (count : ℕ) (old new : Coming) : Type 0 where

@@ -1,6 +1,7 @@
 -- The model of the events of a stream, from the program's state.
 use Rattle.std.specs.Prelude.{◌≡◌, ℕ, ◌+◌, ◌<◌, ◌≤◌, ◌%◌, vec_len, List, Bool, true, false, [], Option, Some, None, IsSome, Result, Ok, Err, length}
 use Rattle.std.specs.Borrow.{Bor}
+use Rattle.bit_grammar.specs.declared.op.Op.{Op}
 use Rattle.bit_grammar.specs.Grammar.{at}
 use Rattle.bit_grammar.specs.Blocks.{Limits}
 use Rattle.bit_grammar.specs.Machine as machine
@@ -17,8 +18,9 @@ use Rattle.bit_fields.specs.Opening.{head_told}
 use Rattle.bit_events.specs.declared.event.Event.{Event}
 use Rattle.bit_events.specs.declared.machine.Step.{Step}
 use Rattle.bit_events.specs.declared.machine.Machine.{Machine}
+
 use Rattle.bit_events.specs.EventView.{lent, shown_if_any}
-use Rattle.bit_events.specs.MachineView.{machine_shown, step_lent}
+use Rattle.bit_events.specs.MachineView.{machine_shown, step_lent, IsMachine}
 use Rattle.bit_events.specs.Coming.{EndsStream, Stage, going, over, failed, Coming, end_at, told_of, Goes}
 
 -- ---- the program's state
@@ -32,20 +34,20 @@ abbrev pub told_from : (is_over : Bool) → Limits → Machine → (place : ℕ)
 told_from true limits m place r = ([], accepted place)
 told_from false limits m place r = told_of limits r.extent (machine_shown m) r.position r.left
 
-abbrev pub last_of : Machine → List ℕ → Option Step → Option machine.Event
-last_of m values None = None
-last_of m values (Some step) = step_lent m values step
+abbrev pub last_of : Option (List Op) → List ℕ → Option Step → Option machine.Event
+last_of made values None = None
+last_of made values (Some step) = step_lent made values step
 
 abbrev pub coming_of : (is_over : Bool) → Limits → Head → Machine → (values : List ℕ) → Option Step
-    → (place : ℕ) → Reader → Coming
-coming_of is_over limits head m values found place r = record {
+    → (made : Option (List Op)) → (place : ℕ) → Reader → Coming
+coming_of is_over limits head m values found made place r = record {
   stage = stage_of is_over r.live;
   head = head_told head;
   told = told_from is_over limits m place r;
   depth = vec_len m.frames;
   deepest = limits.depth;
   held = values;
-  last = last_of m values found;
+  last = last_of made values found;
   position = place;
   incoming = r.incoming;
   budget = r.budget;
@@ -57,10 +59,12 @@ pub record IsClosed (m : Machine) (found : Option Step) : Type 0 where
   pub last : found ≡ None
 
 -- the invariant between calls: there is one frame for each open block, at most as many as the limit allows; the reader is after the
--- last event, and outside of all blocks at a whole byte
+-- last event, and outside of all blocks at a whole byte; the machine is right, unless a call failed or the input ended
 pub record IsEvents (is_over : Bool) (limits : Limits) (m : Machine) (found : Option Step)
     (place : ℕ) (r : Reader) : Type 0 where
   pub depth : vec_len m.frames ≤ limits.depth
+  pub sound : r.live ≡ true → is_over ≡ false → IsMachine m
+  pub same : r.live ≡ true → is_over ≡ false → m.limits ≡ limits
   pub stands : r.live ≡ true → place ≡ r.position
   pub aligned : r.live ≡ true → vec_len m.frames ≡ 0 → r.position % 8 ≡ 0
   pub closed : is_over ≡ true → IsClosed m found

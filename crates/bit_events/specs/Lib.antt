@@ -9,7 +9,7 @@ pub mod Reading
 pub mod Gathering
 pub mod Folding
 pub mod Runs
-pub mod SliceEvents
+pub mod Looking
 pub mod Standing
 pub mod Firsts
 pub mod Named

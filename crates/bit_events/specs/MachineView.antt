@@ -1,38 +1,69 @@
 -- The model of the program's machine.
-use Rattle.std.specs.Prelude.{◌≡◌, ℕ, ◌≤◌, ◌%◌, List, [], ◌∷◌, Option, Some, None, unwrap_or, vec_len}
+use Rattle.std.specs.Prelude.{◌≡◌, ℕ, ◌≤◌, ◌%◌, List, [], ◌∷◌, ◌++◌, Bool, true, false, not, drop, length, Option, Some, None, unwrap_or, vec_len}
 use Rattle.std.specs.Option.{option_map}
+use Rattle.std.specs.List.{AllByRecursion}
+use Rattle.bit_grammar.specs.FormatDefinition.{Definable}
 use Rattle.bit_grammar.specs.declared.shapes.Shapes.{Shapes}
 use Rattle.bit_grammar.specs.declared.op.Op.{Op}
+use Rattle.bit_grammar.specs.Fields.{fixed}
 use Rattle.bit_grammar.specs.Grammar.{Grammar, gives, ◌>>=◌}
-use Rattle.bit_grammar.specs.Blocks.{Handed, BlockHead, end_of_block, define, record_after, leave}
+use Rattle.bit_grammar.specs.Blocks.{Handed, BlockHead, end_of_block, define, entry, record_after, leave}
 use Rattle.bit_grammar.specs.Machine as machine
 use Rattle.bit_grammar.specs.Machine.{Event, enters, defines, notes, leaves, Frame, scope_of, inside}
 use Rattle.bit_grammar.specs.Steps.{MayStand, open_after}
+use Rattle.bit_fields.specs.Buffered.{BufferedBits, Reads, beyond}
 use Rattle.bit_fields.specs.Reader.{Reader}
-use Rattle.bit_abbrev.specs.Ready.{either, table_of}
-use Rattle.bit_events.specs.FrameView.{newest_in, ready_in, frames_shown}
+use Rattle.bit_abbrev.specs.declared.definitions.Marks.{Marks}
+use Rattle.bit_abbrev.specs.InfoTables.{table_in}
+use Rattle.bit_abbrev.specs.BlockMarks.{blocks_of, newest_of, shared_in, Stands}
+use Rattle.bit_events.specs.FrameView.{frames_in, inner_first, is_itself, marks_in, ArePlain}
+use Rattle.bit_events.specs.declared.event.RecordHead.{RecordHead}
+use Rattle.bit_events.specs.declared.frame.Describes.TheVariants.{Itself}
 use Rattle.bit_events.specs.declared.frame.Frame as held
 use Rattle.bit_events.specs.declared.machine.Machine.{Machine}
 use Rattle.bit_events.specs.declared.machine.Step.{Step}
 use Rattle.bit_events.specs.declared.machine.Step.TheVariants as found
 
+-- the open blocks as the machine holds them, the innermost first
+abbrev pub open_in : Machine → List held.Frame
+open_in m = inner_first m.frames.items
+
+-- their marks
+abbrev pub marks_of : Machine → List Marks
+marks_of m = marks_in (open_in m)
+
+-- what is passed on: the table for later blocks, and the number of values
 abbrev pub handed_shown : Machine → Handed
-handed_shown m = record { table = table_of m.table; used = m.used }
+handed_shown m = record { table = shared_in m.definitions; used = m.used }
+
+abbrev pub frames_shown : Machine → List Frame
+frames_shown m = frames_in (table_in m.definitions.made) (blocks_of m.definitions (marks_of m)) (open_in m)
 
 abbrev pub machine_shown : Machine → machine.Machine
-machine_shown m = record { frames = frames_shown m.frames.items; handed = handed_shown m }
+machine_shown m = record { frames = frames_shown m; handed = handed_shown m }
 
--- the last definition that the innermost block made, which is the last of these
-abbrev pub newest : List held.Frame → Option (List Op)
-newest [] = None
-newest (f ∷ []) = newest_in f
-newest (f ∷ g ∷ frames) = newest (g ∷ frames)
+-- whether the innermost block is a BLOCKINFO block
+abbrev pub is_info : List held.Frame → Bool
+is_info [] = false
+is_info (f ∷ outer) = not (is_itself f.describes)
 
--- the same, from one that was made anew and one that is ready
-abbrev pub lent : (made : Option (List Op)) → List held.Frame → Option (List Op)
-lent made [] = made
-lent made (f ∷ []) = either made (ready_in f)
-lent made (f ∷ g ∷ frames) = lent made (g ∷ frames)
+-- the last definition that the innermost block made
+abbrev pub newest : Machine → Option (List Op)
+newest m = newest_of m.definitions (is_info (open_in m))
+
+-- The invariant of a machine: the definitions are those of the open blocks; only the innermost block may be a BLOCKINFO block, and if it
+-- is none, no table is made.
+pub record IsMachine (m : Machine) : Type 0 where
+  pub stands : Stands m.definitions (marks_of m)
+  pub outer : ArePlain (drop 1 (open_in m))
+  pub none_made : is_info (open_in m) ≡ false → (id : ℕ) → table_in m.definitions.made id ≡ []
+
+-- nothing changed that is seen
+pub record Unchanged (old new : Machine) : Type 0 where
+  pub sound : IsMachine new
+  pub frames : vec_len new.frames ≡ vec_len old.frames
+  pub limits : new.limits ≡ old.limits
+  pub shown : machine_shown new ≡ machine_shown old
 
 -- ---- events
 
@@ -44,15 +75,17 @@ abbrev pub record_of : (id : ℕ) → List ℕ → (first : ℕ) → (read : ℕ
 record_of id values first read = notes (record
     { abbreviation = id; code = read.0; values = values; first = first; after = read.1 })
 
--- the event of a step, with these values for a record; a definition is the machine's newest one
-abbrev pub step_shown : Machine → List ℕ → Step → Event
-step_shown m values (found.Enter body first id width) = enters
+-- the event of a step, with these values for a record and this definition
+abbrev pub event_of : Option (List Op) → List ℕ → Step → Event
+event_of made values (found.Enter body first id width) = enters
     (record { id = id; width = width; first = first; body = body })
-step_shown m values (found.Define first after) = definition_of first after
-    (unwrap_or (newest m.frames.items) [])
-step_shown m values (found.Record head) = record_of head.«abbrev» values head.first
-    (head.code, head.after)
-step_shown m values (found.Leave after) = leaves after
+event_of made values (found.Define first after) = definition_of first after (unwrap_or made [])
+event_of made values (found.Record head) = record_of head.«abbrev» values head.first (head.code, head.after)
+event_of made values (found.Leave after) = leaves after
+
+-- the same; a definition is the machine's newest one
+abbrev pub step_shown : Machine → List ℕ → Step → Event
+step_shown m values step = event_of (newest m) values step
 
 -- the bit after a step
 abbrev pub bit_after : Step → ℕ
@@ -61,20 +94,14 @@ bit_after (found.Define first after) = after
 bit_after (found.Record head) = head.after
 bit_after (found.Leave after) = after
 
--- the same event as it is lent, if the machine has its definition
-abbrev pub step_lent : Machine → List ℕ → Step → Option Event
-step_lent m values (found.Define first after) = option_map (definition_of first after)
-    (lent m.made m.frames.items)
-step_lent m values step = Some (step_shown m values step)
+-- the same event as it is lent, with this definition if it was made
+abbrev pub step_lent : (made : Option (List Op)) → List ℕ → Step → Option Event
+step_lent made values (found.Define first after) = option_map (definition_of first after) made
+step_lent made values step = Some (event_of made values step)
 
 abbrev pub IsDefine : Step → Type 0
 IsDefine (found.Define first after) = Unit {0}
 IsDefine step = ⊥
-
--- the machine can lend the definition of a step
-abbrev pub Lendable : Machine → Step → Type 0
-Lendable m (found.Define first after) = lent m.made m.frames.items ≡ newest m.frames.items
-Lendable m step = Unit {0}
 
 -- an event, and the machine after it
 abbrev pub after_step : Machine → List ℕ → Step → Event × machine.Machine
@@ -95,23 +122,21 @@ KeepsValues step old new = new ≡ old
 
 -- a definition that was read is the newest one
 abbrev pub HoldsDefinition : Machine → Event → Type 0
-HoldsDefinition m (defines mark) = newest m.frames.items ≡ Some mark.ops
+HoldsDefinition m (defines mark) = newest m ≡ Some mark.ops
 HoldsDefinition m (enters opened) = Unit {0}
 HoldsDefinition m (notes mark) = Unit {0}
 HoldsDefinition m (leaves after) = Unit {0}
 
 -- this is true of the innermost block and of those around it, if one is open
 abbrev pub InBlock : Machine → (Frame → List Frame → Type 0) → Type 0
-InBlock m Holds = (f : Frame) (outer : List Frame) → frames_shown m.frames.items ≡ f ∷ outer
-    → Holds f outer
+InBlock m Holds = (f : Frame) (outer : List Frame) → frames_shown m ≡ f ∷ outer → Holds f outer
 
--- the head of the innermost block, which is first
-abbrev pub innermost_head : List machine.Frame → Option BlockHead
-innermost_head [] = None
-innermost_head (f ∷ outer) = Some f.head
+-- if a block is open, the innermost one is no BLOCKINFO block
+abbrev pub InPlain : Machine → Type 0
+InPlain m = is_info (open_in m) ≡ false
 
 -- The effect of a call that found an event: the event is allowed at this depth, and its effect on the depth; the reader did not go
--- back, and outside of all blocks it is at a word; and the machine holds a definition that was read.
+-- back, and outside of all blocks it is at a word; and the machine holds a definition that was read, and keeps its limits and its invariant.
 pub record LeavesMachine (deepest : ℕ) (old : Machine) (a : Reader) (event : Event) (new : Machine)
     (b : Reader) : Type 0 where
   pub stands : MayStand deepest event (vec_len old.frames)
@@ -119,6 +144,8 @@ pub record LeavesMachine (deepest : ℕ) (old : Machine) (a : Reader) (event : E
   pub forward : a.position ≤ b.position
   pub aligned : vec_len new.frames ≡ 0 → b.position % 32 ≡ 0
   pub holds : HoldsDefinition new event
+  pub limits : new.limits ≡ old.limits
+  pub sound : IsMachine new
 
 -- ---- the rules of the innermost block f, within others
 
@@ -138,3 +165,17 @@ abbrev pub record_rule : (limit : ℕ) → Frame → List Frame → (first id : 
     → Grammar (Event × machine.Machine)
 record_rule limit f outer first id handed = record_after limit first id (scope_of f handed) >>=
     λ item. gives (notes item.0, inside f.head outer item.1)
+
+-- ---- records
+
+-- In the innermost block f these bits begin with an id and a record by it, of at most `most` values: its code and these values.
+pub record ReadsEntry (most : ℕ) (f : Frame) (a : BufferedBits) (read : RecordHead) (values : List ℕ) : Type 0 where
+  pub record_id : 3 ≤ read.«abbrev»
+  pub begins : read.first ≡ a.position
+  pub id : Reads (fixed f.head.width) a read.«abbrev» (beyond a f.head.width)
+  pub few : length values ≤ most
+  pub definable : AllByRecursion Definable f.definitions
+  pub end : BufferedBits
+  pub after : read.after ≡ end.position
+  pub record_read : Reads (entry most read.first read.«abbrev» f.definitions) (beyond a f.head.width)
+      (record { code = read.code; values = values }) end

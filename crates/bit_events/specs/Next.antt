@@ -11,7 +11,7 @@ use Rattle.bit_fields.specs.Reader.{Reader, TellsBytes, GoesOn, StopsReading, Lo
 use Rattle.bit_events.specs.declared.machine.Machine.{Machine}
 use Rattle.bit_events.specs.declared.machine.Step.{Step}
 use Rattle.bit_events.specs.Coming.{EndsStream, bit_behind, event_before, told_of}
-use Rattle.bit_events.specs.MachineView.{machine_shown, step_shown, LeavesMachine}
+use Rattle.bit_events.specs.MachineView.{machine_shown, step_shown, LeavesMachine, Unchanged}
 
 -- the remaining events of the rest of a stream, and their end
 abbrev pub left_to_tell : Limits → Machine → Reader → Told
@@ -44,7 +44,7 @@ pub record FindsEnd (limits : Limits) (m : Machine) (a : Reader) (n : Machine)
   pub position : b.position ≡ a.position
   pub outside : vec_len m.frames ≡ 0
   pub ends : EndsStream a
-  pub same : n ≡ m
+  pub same : Unchanged m n
   pub told : TellsBytes a → left_to_tell limits m a ≡ ([], accepted a.position)
   pub none : TellsBytes a → known_bytes b.incoming.to_come ≡ []
 

@@ -1,11 +1,16 @@
-ghost use Rattle.std.specs.Prelude.{◌≡◌, ⊤, ℕ, List, ◌%◌, true, IfOk, IfErr};
+//! Finding the events of a stream, one at a time.
+
+ghost use Rattle.std.specs.Prelude.{◌≡◌, ⊤, ℕ, List, ◌<◌, ◌≤◌, IfErr, IfNone, IfOk, IfSome};
+ghost use Rattle.bit_abbrev.specs.Values.{Gains};
+ghost use Rattle.bit_events.specs.Coming.{over, Coming, BreaksOff, DropsEvents, GivesEvent, OnlyLooksAt, PassesEvents};
+ghost use Rattle.bit_events.specs.MachineView.{record_of, TookSome};
+ghost use Rattle.bit_events.specs.Runs.{AddsBehind};
 ghost use Rattle.std.specs.Borrow.{Bor, sem, follows_so};
 ghost use mathlib.Core.Option.{none};
 ghost use Rattle.bit_fields.specs.Opening.{head_told};
 ghost use Rattle.bit_events.specs.EventView.{shown_if_any};
 ghost use Rattle.bit_events.specs.Folding.{GathersRest};
-ghost use Rattle.bit_events.specs.Events.{Finds, LendsAs, Shuts, Begun, DeclinesEvents};
-//! Finding the events of a stream, one at a time.
+ghost use Rattle.bit_events.specs.Events.{Finds, LendsAs, Begun, DeclinesEvents};
 
 use crate::event::{Event, RecordHead};
 use crate::folding::gather_rest;
@@ -28,6 +33,7 @@ use std::marker::Model;
 #[derive(Drop)]
 pub struct EventFinder<S: Source, V: ValueKeeper> {
     alloc: Global,
+    limits: Limits,
     head: Head,
     reader: BitReader<S>,
     machine: Machine,
@@ -44,15 +50,20 @@ pub struct EventFinder<S: Source, V: ValueKeeper> {
 }
 
 impl<S: Source, V: ValueKeeper> Model for EventFinder<S, V> {
+    ghost use Rattle.bit_events.specs.Coming.{Coming};
+    ghost use Rattle.bit_events.specs.Events.{coming_of, IsEvents};
+
     ghost Value = { Coming };
 
-    ghost view = { λ e. coming_of e.over e.machine.limits e.head e.machine (V.kept e.values.taker) e.found
+    ghost view = { λ e. coming_of e.over e.limits e.head e.machine (V.kept e.values.taker) e.found e.made
         e.reached e.reader };
 
-    ghost invariant = { λ e. IsEvents e.over e.machine.limits e.machine e.found e.reached e.reader };
+    ghost invariant = { λ e. IsEvents e.over e.limits e.machine e.found e.reached e.reader };
 }
 
 impl<S: Source, V: ValueKeeper> EventFinder<S, V> {
+    ghost use Rattle.bit_events.specs.contracts.finder.EventFinder.{the_row};
+
     /// Begins the events of an input: reads its wrapper, if there is one, and the magic of its stream. It allocates nothing.
     ///
     /// It refuses an input that breaks there, as `BitReader::start` does, and returns its source.
@@ -71,6 +82,7 @@ impl<S: Source, V: ValueKeeper> EventFinder<S, V> {
         let reached = reader.position();
         Ok(EventFinder {
             alloc,
+            limits,
             head,
             reader,
             machine: Machine::new(alloc, limits),
@@ -120,30 +132,21 @@ impl<S: Source, V: ValueKeeper> EventFinder<S, V> {
         if !self.reader.is_live() {
             return Err(Fault::Failed);
         }
-        self.found = self.machine.next(&mut self.reader, &mut self.values)?;
-        if let Some(Step::Define { .. }) = self.found {
-            self.make()?;
-        }
+        let Some(step) = self.machine.next_lent(
+            self.alloc,
+            &mut self.reader,
+            &mut self.values,
+            &mut self.made,
+        )?
+        else {
+            self.found = None;
+            self.over = true;
+            return Ok(());
+        };
+        self.found = Some(step);
         // Positions are below 2^64 and rise, so the events end.
         self.reached = self.reader.position();
-        self.over = self.found.is_none();
         Ok(())
-    }
-
-    /// Makes the abbreviation of the definition that was found.
-    #[cold]
-    #[inline(never)]
-    fn make(&mut self) -> Result<(), Fault> {
-        let Some(ops) = self.machine.newest() else {
-            unreachable!();
-        };
-        match Abbrev::of_held(self.alloc, ops) {
-            Ok(made) => {
-                self.made = Some(made);
-                Ok(())
-            }
-            Err(_) => Err(self.reader.fail(Fault::Memory)),
-        }
     }
 
     /// Gathers all remaining events, as `fold` does, with values of their own.
@@ -182,7 +185,18 @@ impl<S: Source, V: ValueKeeper> EventFinder<S, V> {
     /// Reads the next event if it is a complete record: gives its values to the value sink and returns the record without them. If
     /// it is not, or if a value is not taken, it returns `None`, some values may have been added, and `next` finds the event.
     #[inline(always)]
-    pub fn record<T: ValueTaker>(&mut self, values: &mut T) -> Option<RecordHead> {
+    pub fn record<T: ValueTaker>(&mut self, values: &mut T) -> Option<RecordHead>
+        requires took { TookSome T.took values.old }
+        ensures gives { IfSome result (λ read. Gains T.took values.old values.new
+            (AddsBehind (λ list. GivesEvent self.old
+            (record_of read.«abbrev» list read.first (read.code, read.after))
+            (record self.new { held = list })))) }
+        ensures stays { IfNone result (OnlyLooksAt self.old self.new) }
+        ensures took { TookSome T.took values.new }
+    {
+        if self.over || !self.reader.is_live() {
+            return None;
+        }
         let bits = self.reader.bits();
         let first = bits.position();
         let read = self.machine.plain_record(bits, values)?;
@@ -192,11 +206,16 @@ impl<S: Source, V: ValueKeeper> EventFinder<S, V> {
     }
 
     /// Passes over the next records of the innermost block, at most `most`, and returns how many they are.
-    fn pass_records(&mut self, most: u64) -> Result<u64, Fault> {
+    fn pass_records(&mut self, most: u64) -> Result<u64, Fault>
+        ensures few { IfOk result (λ count. count ≤ most) }
+        ensures passes { IfOk result (λ count. PassesEvents count self.old self.new) }
+        ensures stage { IfOk result (λ _. self.new.stage ≡ self.old.stage) }
+        ensures fails { IfErr result (λ fault. BreaksOff self.old fault self.new) }
+    {
         let Some(frame) = self.machine.frames.last() else {
             return Ok(0);
         };
-        if !frame.is_plain() {
+        if !frame.is_plain() || !self.reader.is_live() {
             return Ok(0);
         }
         let room = self.machine.room();
@@ -222,7 +241,13 @@ impl<S: Source, V: ValueKeeper> EventFinder<S, V> {
 
     /// Passes over the next events, at most `most`, and returns how many they are: fewer only if the whole input is accepted. It fails
     /// as `next` does.
-    pub fn pass(&mut self, most: u64) -> Result<u64, Fault> {
+    pub fn pass(&mut self, most: u64) -> Result<u64, Fault>
+        ensures few { IfOk result (λ count. count ≤ most) }
+        ensures passes { IfOk result (λ count. PassesEvents count self.old self.new) }
+        ensures all { IfOk result (λ count. count < most → self.new.stage ≡ over) }
+        ensures fails { IfErr result (λ fault. (count : ℕ) × (mid : Coming)
+            × PassesEvents count self.old mid × BreaksOff mid fault self.new) }
+    {
         let mut left = most;
         while left > 0 {
             left -= self.pass_records(left)?;
@@ -240,7 +265,9 @@ impl<S: Source, V: ValueKeeper> EventFinder<S, V> {
     }
 
     /// Drops all events that are left. They are not read, and the input counts as accepted.
-    pub fn drop_rest(&mut self) {
+    pub fn drop_rest(&mut self)
+        ensures { DropsEvents self.old self.new }
+    {
         self.machine.drop_blocks();
         self.forget(self.reached);
         self.over = true;

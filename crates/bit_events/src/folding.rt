@@ -1,14 +1,13 @@
-ghost use Rattle.std.specs.Prelude.{◌≡◌, ◌<◌, ◌≤◌, ◌+◌, ◌-◌, ◌%◌, true, ℕ, List, [], IsSome, OnOk, OnErr, IfOk, length, vec_len};
-ghost use Rattle.bit_fields.specs.Buffered.{beyond};
-ghost use Rattle.bit_fields.specs.BufferedParts.{bits_of_parts, AreParts};
+//! Reading a whole input into a `Gatherer`.
+
+ghost use Rattle.std.specs.Prelude.{◌≡◌, ◌%◌, true, ℕ, List, [], OnOk, OnErr, IfOk, vec_len};
 ghost use Rattle.bit_fields.specs.Opening.{head_told};
-ghost use Rattle.bit_events.specs.Folding.{Lost, TakesRun, TakesNext, TakesAll, Gathered};
+ghost use Rattle.bit_fields.specs.PlacedView.{placed};
+ghost use Rattle.bit_events.specs.Folding.{TakesRun, TakesNext, TakesAll, Gathered};
 ghost use Rattle.bit_events.specs.Gathering.{FailsAt, Gathers};
-ghost use Rattle.bit_events.specs.MachineView.{newest, step_shown, HoldsDefinition, TookSome};
-ghost use Rattle.bit_events.specs.declared.machine.Step.TheVariants.{Define};
+ghost use Rattle.bit_events.specs.MachineView.{step_shown, HoldsDefinition, IsMachine, TookSome};
 ghost use Rattle.bit_events.specs.Reading.{ReadsWhole};
 ghost use Rattle.bit_events.specs.Runs.{GathersUpTo, StopsOn};
-//! Reading a whole input into a `Gatherer`.
 
 use crate::gatherer::Gatherer;
 use crate::machine::{Machine, Step};
@@ -34,6 +33,7 @@ fn hand_on<G: Gatherer>(
     values: &mut G::Values,
 ) -> Result<(), AllocError>
     requires holds { HoldsDefinition machine.now (step_shown machine.now [] step) }
+    requires sound { IsMachine machine.now }
     requires took { TookSome G.Values.took values.old }
     ensures gathers { OnOk result ((list : List ℕ) → G.Values.took values.old list
         → Gathers G.gathered gatherer.old (step_shown machine.now list step) gatherer.new) }
@@ -70,7 +70,16 @@ fn gather_placed<G: Gatherer>(
     machine: &mut Machine,
     gatherer: &mut G,
     values: &mut WithFirst<G::Values>,
-) -> Result<u64, AllocError> {
+) -> Result<u64, AllocError>
+    requires took { TookSome G.Values.took values.old.taker }
+    requires sound { IsMachine machine.old }
+    requires aligned { vec_len machine.old.frames ≡ 0 → (placed from).position % 8 ≡ 0 }
+    ensures took { TookSome G.Values.took values.new.taker }
+    ensures gathers { IfOk result (λ after. GathersUpTo G.gathered machine.old.limits machine.old
+        (placed from.entry) gatherer.old machine.new after gatherer.new) }
+    ensures stops { OnErr result (StopsOn G.gathered G.fails machine.old.limits machine.old
+        (placed from.entry) gatherer.old gatherer.new) }
+{
     let mut bits = from;
     let mut ended = false;
     loop {
@@ -90,7 +99,17 @@ fn gather_buffered<S: Source, G: Gatherer>(
     machine: &mut Machine,
     gatherer: &mut G,
     values: &mut WithFirst<G::Values>,
-) -> Result<(), Fault> {
+) -> Result<(), Fault>
+    requires live { reader.old.live ≡ true }
+    requires took { TookSome G.Values.took values.old.taker }
+    requires sound { IsMachine machine.old }
+    requires aligned { vec_len machine.old.frames ≡ 0 → reader.old.position % 8 ≡ 0 }
+    ensures took { TookSome G.Values.took values.new.taker }
+    ensures takes { TakesRun G.gathered G.fails machine.old.limits machine.old reader.old gatherer.old
+        result machine.new reader.new gatherer.new }
+    ensures sound { OnOk result (IsMachine machine.new) }
+    ensures limits { OnOk result (machine.new.limits ≡ machine.old.limits) }
+{
     let bits = reader.bits();
     let first = bits.position();
     match gather_placed(bits, machine, gatherer, values) {
@@ -103,12 +122,23 @@ fn gather_buffered<S: Source, G: Gatherer>(
 }
 
 /// Gathers the next event, and returns whether there was one.
+#[tactic(auto, using(crate::proofs::Folds::one_event, crate::proofs::Folds::none_left, crate::proofs::Folds::none_found))]
 fn gather_next<S: Source, G: Gatherer>(
     reader: &mut BitReader<S>,
     machine: &mut Machine,
     gatherer: &mut G,
     values: &mut WithFirst<G::Values>,
-) -> Result<bool, Fault> {
+) -> Result<bool, Fault>
+    requires live { reader.old.live ≡ true }
+    requires took { TookSome G.Values.took values.old.taker }
+    requires sound { IsMachine machine.old }
+    requires aligned { vec_len machine.old.frames ≡ 0 → reader.old.position % 8 ≡ 0 }
+    ensures took { TookSome G.Values.took values.new.taker }
+    ensures takes { TakesNext G.gathered G.fails machine.old.limits machine.old reader.old gatherer.old
+        result machine.new reader.new gatherer.new }
+    ensures sound { OnOk result (IsMachine machine.new) }
+    ensures limits { OnOk result (machine.new.limits ≡ machine.old.limits) }
+{
     let Some(step) = machine.next_exact(reader, values)? else {
         return Ok(false);
     };
@@ -123,10 +153,18 @@ pub(crate) fn gather_rest<S: Source, G: Gatherer>(
     reader: &mut BitReader<S>,
     machine: &mut Machine,
     gatherer: &mut G,
-) -> Result<(), Fault> {
+) -> Result<(), Fault>
+    requires live { reader.old.live ≡ true }
+    requires sound { IsMachine machine.old }
+    requires aligned { vec_len machine.old.frames ≡ 0 → reader.old.position % 8 ≡ 0 }
+    ensures { TakesAll G.gathered G.fails machine.old.limits machine.old reader.old gatherer.old result
+        machine.new reader.new gatherer.new }
+{
     let mut values = WithFirst::new(gatherer.values());
     'events: loop {
         gather_buffered(reader, machine, gatherer, &mut values)?;
+        // Positions are below 2^64 and rise, so the events end.
+        let _position = reader.position();
         if !gather_next(reader, machine, gatherer, &mut values)? {
             return Ok(());
         }

@@ -1,25 +1,18 @@
-ghost use Rattle.std.specs.Prelude.{◌≡◌, ◌-◌, ◌+◌, ◌<◌, ◌≤◌, true, [], ℕ, List, Some, OnOk, IsSome, length, unwrap_or, slice_get, IfOk};
-ghost use Rattle.std.specs.Option.{option_copied};
-ghost use Rattle.bit_grammar.specs.Blocks as blocks;
-ghost use Rattle.bit_grammar.specs.Blocks.{Handed, defined, define, describe, entry, record_after, may_define};
-ghost use Rattle.bit_grammar.specs.Definition.{operands};
-ghost use Rattle.bit_grammar.specs.declared.op.Place.TheVariants.{First};
-ghost use Rattle.bit_grammar.specs.Machine.{scope_of};
-ghost use Rattle.bit_fields.specs.Reader.{Takes, told_by};
-ghost use Rattle.bit_abbrev.specs.Defining.{AddsRead};
-ghost use Rattle.bit_abbrev.specs.Ready.{either};
-ghost use Rattle.bit_abbrev.specs.Values.{AddsWithin, Gains, Has, Keeps};
-ghost use Rattle.bit_events.specs.Firsts.{TookWithFirst};
-ghost use Rattle.bit_events.specs.FrameView.{describing_shown, info_shown, described_value, frame_shown, newest_in, ready_in, AddsDefinition};
 //! Open blocks.
 
+ghost use Rattle.std.specs.Prelude.{◌≡◌, ℕ, false, IfErr, OnErr};
+ghost use Rattle.bit_grammar.specs.Grammar.{at};
+ghost use Rattle.bit_grammar.specs.Terms.{Table, info_for, no_definitions};
+ghost use Rattle.bit_grammar.specs.Blocks.{may_define};
+ghost use Rattle.bit_fields.specs.Reader.{Extent, within};
+ghost use Rattle.bit_events.specs.FrameView.{described_of, described_value, info_shown, is_itself, DescribesBy};
 use crate::head::BlockHead;
 use bit_abbrev::Marks;
 use bit_fields::Reason;
 use bit_grammar::SET_BID;
 
 /// Which block is described in a block.
-#[derive(Clone, Copy, PartialEq, Eq)]
+#[derive(Clone, Copy)]
 pub(crate) enum Describes {
     /// It is no BLOCKINFO block.
     Itself,
@@ -37,6 +30,20 @@ pub(crate) struct Frame {
     pub(crate) describes: Describes,
 }
 
+impl Describes {
+    /// What a block with this id describes at its beginning.
+    #[inline(always)]
+    pub(crate) fn at_start(id: u32) -> Describes
+        ensures { info_shown no_definitions result ≡ info_for id }
+    {
+        if id == 0 {
+            Describes::NoneYet
+        } else {
+            Describes::Itself
+        }
+    }
+}
+
 /// The first value of a record as a block id, if there is one and it fits.
 fn described_id(value: Option<u64>) -> Option<u32>
     ensures { result ≡ described_value value }
@@ -50,19 +57,25 @@ fn described_id(value: Option<u64>) -> Option<u32>
 impl Frame {
     /// Whether it is no BLOCKINFO block.
     #[inline(always)]
-    pub(crate) fn is_plain(&self) -> bool {
-        self.describes == Describes::Itself
+    pub(crate) fn is_plain(&self) -> bool
+        ensures { result ≡ is_itself self.now.describes }
+    {
+        matches!(self.describes, Describes::Itself)
     }
 
     /// Whether a definition may come now.
     #[inline(always)]
-    pub(crate) fn may_define(&self) -> bool {
-        self.describes != Describes::NoneYet
+    pub(crate) fn may_define(&self) -> bool
+        ensures { (made : Table) → result ≡ may_define (info_shown made self.now.describes) }
+    {
+        !matches!(self.describes, Describes::NoneYet)
     }
 
     /// The id of the described block, if the block describes one: the definitions that come are for it.
     #[inline(always)]
-    pub(crate) fn described(&self) -> Option<u32> {
+    pub(crate) fn described(&self) -> Option<u32>
+        ensures { result ≡ described_of self.now.describes }
+    {
         match self.describes {
             Describes::Block(id) => Some(id),
             Describes::Itself | Describes::NoneYet => None,
@@ -70,17 +83,27 @@ impl Frame {
     }
 
     /// Finds the described block of a BLOCKINFO block after a record, or why the record is none of such a block.
-    pub(crate) fn describe(&mut self, code: u64, value: Option<u64>) -> Result<(), Reason> {
+    pub(crate) fn describe(&mut self, code: u64, value: Option<u64>) -> Result<(), Reason>
+        requires { is_itself self.old.describes ≡ false }
+        ensures describes { DescribesBy code value self.old.describes result self.new.describes }
+        ensures info { is_itself self.new.describes ≡ false }
+        ensures head { self.new.head ≡ self.old.head }
+        ensures marks { self.new.marks ≡ self.old.marks }
+        ensures err { OnErr result (self.new ≡ self.old) }
+        ensures reason { IfErr result (λ reason. (e : Extent) (bit : ℕ) → within e reason bit ≡ at reason bit) }
+    {
         if code != SET_BID {
             if self.may_define() {
                 return Ok(());
             }
             return Err(Reason::NoBlockSet);
         }
-        let Some(id) = described_id(value) else {
-            return Err(Reason::BadSetBid);
-        };
-        self.describes = Describes::Block(id);
-        Ok(())
+        match described_id(value) {
+            Some(id) => {
+                self.describes = Describes::Block(id);
+                Ok(())
+            }
+            None => Err(Reason::BadSetBid),
+        }
     }
 }

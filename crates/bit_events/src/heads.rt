@@ -58,7 +58,10 @@ pub(crate) fn block_head<S: Source>(reader: &mut BitReader<S>) -> Result<BlockHe
 
 /// The same in buffered bits. `None` leaves it to the reader: also an id or a width of more than one chunk, which are rare.
 #[inline(always)]
-pub(crate) fn placed_head(bits: PlacedBits<'_>) -> Option<BlockHead> {
+pub(crate) fn placed_head(bits: PlacedBits<'_>) -> Option<BlockHead>
+    requires { 160 ≤ length (placed bits).bits }
+    ensures { IfSome result (λ head. ReadsUpTo block_head (placed bits.entry) (head_shown head) head.body) }
+{
     let first = bits.position();
     let length_at = (first + 12 + 31) & !31;
     let to_length = length_at - first;
@@ -107,7 +110,11 @@ pub(crate) fn end_of_block<S: Source>(
 
 /// The bit after the block, if these bits come after the id that ends it, and the end is lawful.
 #[inline(always)]
-pub(crate) fn placed_end(bits: PlacedBits<'_>, head: BlockHead) -> Option<u64> {
+pub(crate) fn placed_end(bits: PlacedBits<'_>, head: BlockHead) -> Option<u64>
+    requires { 160 ≤ length (placed bits).bits }
+    ensures reads { IfSome result (λ after. ReadsUpTo (end_of_block (head_shown head)) (placed bits.entry) after after) }
+    ensures aligned { IfSome result (λ after. after % 32 ≡ 0) }
+{
     let first = bits.position();
     let after = (first + 31) & !31;
     if bits.fixed((after - first) as u32) != 0 || !ends_at(head, after) {

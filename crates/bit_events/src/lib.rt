@@ -35,9 +35,11 @@ mod open_blocks;
 #[cfg(test)]
 mod open_blocks_tests;
 mod passing;
+mod placing;
 mod running;
 #[cfg(test)]
 mod slice_events_tests;
+mod steps;
 mod with_first;
 
 pub use checking::{check, check_keeping};

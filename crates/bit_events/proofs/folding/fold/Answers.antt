@@ -6,7 +6,7 @@ use Rattle.bit_events.specs.Folding.{Gathered}
 use Rattle.bit_events.specs.Reading.{Spent}
 use Rattle.bit_events.proofs.Advancing.{began, declined}
 use Rattle.bit_events.proofs.WholeInputs.{not_begun}
-use Rattle.bit_events.proofs.Folds.{spent, not_read, whole_gathered, some_gathered}
+use Rattle.bit_events.proofs.Folds.{none_returned, spent, not_read, whole_gathered, some_gathered}
 use Rattle.bit_events.proofs.folding.fold.Goals as goal
 
 pub returns-in-Err-clause-whole : goal.returns-in-Err-clause-whole
@@ -20,16 +20,16 @@ returns-in-Ok-done-clause-whole g c =
     let i = g.S.Source.incoming c.args.source in
     let b = c.gather_rest-done.new.reader in
     let head = c.in-Ok.begun.1 in
-    let begun : Begun c.args.limits i (coming_of false c.args.limits head c.new-machine.result [] None c.in-Ok.begun.0.position c.in-Ok.begun.0) = began c.args.limits i head c.new-machine.result [] c.in-Ok.begun.0 c.bytes-bytes.ensures.capped c.new-machine.ensures.machine refl c.new-machine.ensures.none c.in-Ok.ensures.begun in
+    let begun : Begun c.args.limits i (coming_of false c.args.limits head c.new-machine.result [] None None c.in-Ok.begun.0.position c.in-Ok.begun.0) = began c.args.limits i head c.new-machine.result [] c.in-Ok.begun.0 c.bytes-bytes.ensures.capped c.new-machine.ensures.machine refl c.new-machine.ensures.none c.in-Ok.ensures.begun in
     let all = c.in-Ok-done.ensures in
-    subst (λ (now : Incoming). Spent c.args.limits i now × (IsSome i.to_come → Gathered g.G.Gatherer.gathered c.args.limits (known_bytes i.to_come) c.args.gatherer (head_told head) c.gather_rest-done.new.gatherer c.position-after.result × (known_bytes now.to_come ≡ []))) (sym c.into_source-source.ensures) (
-      spent c.args.limits i head c.new-machine.result c.in-Ok.begun.0 b begun all.pays,
-      λ tells. (whole_gathered g.G.Gatherer.gathered c.args.limits i head c.new-machine.result c.in-Ok.begun.0 c.args.gatherer c.gather_rest-done.new.machine b c.gather_rest-done.new.gatherer c.position-after.result begun c.requires c.position-after.ensures.position all tells, all.none (begun.pays.tells tells)),
+    let now = g.S.Source.incoming c.into_source-source.result in (
+      spent c.args.limits i head c.new-machine.result c.in-Ok.begun.0 b now begun all.pays all.stopped c.into_source-source.ensures,
+      λ tells. (whole_gathered g.G.Gatherer.gathered c.args.limits i head c.new-machine.result c.in-Ok.begun.0 c.args.gatherer c.gather_rest-done.new.machine b c.gather_rest-done.new.gatherer c.position-after.result begun c.requires c.position-after.ensures.position (rw c.new-machine.ensures.limits at all) tells, none_returned b now all.stopped c.into_source-source.ensures ((rw c.new-machine.ensures.limits at all).pays.tells (begun.pays.tells tells)) (all.none (begun.pays.tells tells))),
     )
 
 pub returns-in-Err-done-clause-whole : goal.returns-in-Err-done-clause-whole
 returns-in-Err-done-clause-whole g c =
     let i = g.S.Source.incoming c.args.source in
     let head = c.in-Ok.begun.1 in
-    let begun : Begun c.args.limits i (coming_of false c.args.limits head c.new-machine.result [] None c.in-Ok.begun.0.position c.in-Ok.begun.0) = began c.args.limits i head c.new-machine.result [] c.in-Ok.begun.0 c.bytes-bytes.ensures.capped c.new-machine.ensures.machine refl c.new-machine.ensures.none c.in-Ok.ensures.begun in
+    let begun : Begun c.args.limits i (coming_of false c.args.limits head c.new-machine.result [] None None c.in-Ok.begun.0.position c.in-Ok.begun.0) = began c.args.limits i head c.new-machine.result [] c.in-Ok.begun.0 c.bytes-bytes.ensures.capped c.new-machine.ensures.machine refl c.new-machine.ensures.none c.in-Ok.ensures.begun in
     not_read {A = Unit {0}} (λ bytes done. Unit {0}) g.G.Gatherer.gathered g.G.Gatherer.fails c.args.limits i (g.S.Source.incoming c.into_source-source.result) head c.new-machine.result c.in-Ok.begun.0 c.args.gatherer c.gather_rest-done.new.reader c.gather_rest-done.new.gatherer c.in-Err-done.fault begun c.into_source-source.ensures c.in-Err-done.ensures

@@ -3,14 +3,13 @@ use Rattle.std.proofs.lemmas.Result.{on_err_weaker}
 use Rattle.bit_events.proofs.Folds.{for_each, lost_each}
 use Rattle.bit_events.proofs.folding.hand_on.Goals as goal
 
-pub hand_definition-requires : goal.hand_definition-requires
-hand_definition-requires g c = rw (rw c.in-Define.is at c.requires.holds) refl
-
 pub returns-in-Enter-clause-gathers : goal.returns-in-Enter-clause-gathers
 returns-in-Enter-clause-gathers g c = rw c.in-Enter.is (for_each _ (λ (list : List ℕ). g.G.Values.ValueTaker.took c.args.values.now list) c.enter.result c.enter.ensures.gathers)
 
-pub returns-in-Define-clause-gathers : goal.returns-in-Define-clause-gathers
-returns-in-Define-clause-gathers g c = rw c.in-Define.is (for_each _ (λ (list : List ℕ). g.G.Values.ValueTaker.took c.args.values.now list) c.hand_definition.result c.hand_definition.ensures.gathers)
+pub returns-in-Some-clause-gathers : goal.returns-in-Some-clause-gathers
+returns-in-Some-clause-gathers g c =
+    let held = c.newest.ensures.newest in
+    rw (c.in-Define.is, ← held, c.in-Some.is) (for_each _ (λ (list : List ℕ). g.G.Values.ValueTaker.took c.args.values.now list) c.define.result c.define.ensures.gathers)
 
 pub returns-in-Record-clause-gathers : goal.returns-in-Record-clause-gathers
 returns-in-Record-clause-gathers g c = rw c.in-Record.is c.record.ensures.gathers
@@ -21,8 +20,10 @@ returns-in-Leave-clause-gathers g c = rw c.in-Leave.is (for_each _ (λ (list : L
 pub returns-in-Enter-clause-fails : goal.returns-in-Enter-clause-fails
 returns-in-Enter-clause-fails g c = rw c.in-Enter.is (lost_each _ (λ (list : List ℕ). g.G.Values.ValueTaker.took c.args.values.now list) c.enter.result (on_err_weaker c.enter.result inr c.enter.ensures.fails))
 
-pub returns-in-Define-clause-fails : goal.returns-in-Define-clause-fails
-returns-in-Define-clause-fails g c = rw c.in-Define.is (lost_each _ (λ (list : List ℕ). g.G.Values.ValueTaker.took c.args.values.now list) c.hand_definition.result c.hand_definition.ensures.fails)
+pub returns-in-Some-clause-fails : goal.returns-in-Some-clause-fails
+returns-in-Some-clause-fails g c =
+    let held = c.newest.ensures.newest in
+    rw (c.in-Define.is, ← held, c.in-Some.is) (lost_each _ (λ (list : List ℕ). g.G.Values.ValueTaker.took c.args.values.now list) c.define.result (on_err_weaker c.define.result inr c.define.ensures.fails))
 
 pub returns-in-Leave-clause-fails : goal.returns-in-Leave-clause-fails
 returns-in-Leave-clause-fails g c = rw c.in-Leave.is (lost_each _ (λ (list : List ℕ). g.G.Values.ValueTaker.took c.args.values.now list) c.leave.result (on_err_weaker c.leave.result inr c.leave.ensures.fails))

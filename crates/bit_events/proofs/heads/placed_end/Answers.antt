@@ -12,9 +12,6 @@ overflow_add-after c = (let at = place_of c.args.bits c.position-first.result c.
 pub overflow_sub-after : goal.overflow_sub-after
 overflow_sub-after c = (let at = place_of c.args.bits c.position-first.result c.position-first.result c.position-first.ensures c.requires (omega arith) in omega (arith, at.is))
 
-pub loaded_by_padding-requires : goal.loaded_by_padding-requires
-loaded_by_padding-requires c = (let at = place_of c.args.bits c.position-first.result c.position-first.result c.position-first.ensures c.requires (omega arith) in omega (arith, at.is, at.few, at.fits))
-
 pub returns-clause-reads : goal.returns-clause-reads
 returns-clause-reads c =
     let a = placed c.args.bits in

@@ -14,30 +14,21 @@ overflow_add-length_at c = (let at = place_of c.args.bits c.position-first.resul
 pub overflow_add-length_at-2 : goal.overflow_add-length_at-2
 overflow_add-length_at-2 c = (let at = place_of c.args.bits c.position-first.result (c.position-first.result + 12) c.position-first.ensures c.requires (omega arith) in omega (arith, at.fits))
 
-pub loaded_by_two-loaded-requires : goal.loaded_by_two-loaded-requires
-loaded_by_two-loaded-requires c = (let at = place_of c.args.bits c.position-first.result (c.position-first.result + 12) c.position-first.ensures c.requires (omega arith) in omega (arith, at.fits))
-
 pub overflow_sub-to_length : goal.overflow_sub-to_length
 overflow_sub-to_length c = (let at = place_of c.args.bits c.position-first.result (c.position-first.result + 12) c.position-first.ensures c.requires (omega arith) in omega (arith, at.is))
 
-pub loaded_by-loaded-requires-clause-fits : goal.loaded_by-loaded-requires-clause-fits
-loaded_by-loaded-requires-clause-fits c = (let at = place_of c.args.bits c.position-first.result (c.position-first.result + 12) c.position-first.ensures c.requires (omega arith) in omega (arith, at.fits))
-
-pub loaded_by_padding-requires : goal.loaded_by_padding-requires
-loaded_by_padding-requires c = (let at = place_of c.args.bits c.position-first.result (c.position-first.result + 12) c.position-first.ensures c.requires (omega arith) in omega (arith, at.is, at.few, at.fits))
-
-pub overflow_cast-head-3 : goal.overflow_cast-head-3
-overflow_cast-head-3 c =
+pub overflow_cast-result-3 : goal.overflow_cast-result-3
+overflow_cast-result-3 c =
     let at = place_of c.args.bits c.position-first.result (c.position-first.result + 12) c.position-first.ensures c.requires (omega arith) in
     let len = bit_and (c.position-first.result + 12 + 31) 18446744073709551584 - c.position-first.result in
     let there : 32 ≤ length (placed c.after.result).bits = omega (arith, ap (λ (b : BufferedBits). length b.bits) c.after.ensures.rest, length-drop len (placed c.args.bits).bits, c.requires, at.is, at.few) in
     omega (arith, field_below 32 c.fixed-words.result (placed c.after.result) (beyond (placed c.after.result) 32) there c.fixed-words.ensures)
 
-pub overflow_add-head : goal.overflow_add-head
-overflow_add-head c = (let at = place_of c.args.bits c.position-first.result (c.position-first.result + 12) c.position-first.ensures c.requires (omega arith) in omega (arith, at.is, at.few, at.fits))
+pub overflow_add-result : goal.overflow_add-result
+overflow_add-result c = (let at = place_of c.args.bits c.position-first.result (c.position-first.result + 12) c.position-first.ensures c.requires (omega arith) in omega (arith, at.is, at.few, at.fits))
 
-pub returns-clause-reads : goal.returns-clause-reads
-returns-clause-reads c =
+pub returns : goal.returns
+returns c =
     let a = placed c.args.bits in
     let first = c.position-first.result in
     let word = c.front-word.result in

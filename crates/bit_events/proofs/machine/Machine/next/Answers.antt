@@ -1,37 +1,124 @@
-use Rattle.std.proofs.Common.{Bool, Ok, subst, arith}
+use Rattle.std.proofs.Common.{◌-◌, arith, sym, ap, ◌∙◌, subst}
 use Rattle.std.proofs.lemmas.Result.{err_from_is_err_and}
-use Rattle.bit_events.specs.Events.{Shuts}
-use Rattle.bit_events.specs.MachineView.{step_shown}
-use Rattle.bit_events.proofs.Advancing.{Ready, finds_event, finds_fault, finds_end, finds_shut}
+use Rattle.bit_fields.specs.PlacedView.{placed}
+use Rattle.bit_events.proofs.Finding.{looked_lost, next_looked, stays_shown}
+use Rattle.bit_events.proofs.LookedAt.{found_there, look_found, look_missed, look_noted}
 use Rattle.bit_events.proofs.machine.Machine.next.Goals as goal
 
-pub returns-in_err-shuts-clause-finds : goal.returns-in_err-shuts-clause-finds
-returns-in_err-shuts-clause-finds g c =
+pub returns-in_default-clause-finds : goal.returns-in_default-clause-finds
+returns-in_default-clause-finds g c =
+    let r = c.args.reader.now in
+    let a = placed c.bits-bits.result in
+    let s = c.bits-bits.follows.lender-at-none in
+    let shows = c.bits-bits.follows.holds-at-none in
+    let took = c.look.ensures.took in
+    (took.0, took.1, rw (c.fail.ensures.fault, c.fail.ensures.failed) (looked_lost r s (stays_shown r a s c.requires.live shows)))
+
+pub returns-in-Found-clause-finds : goal.returns-in-Found-clause-finds
+returns-in-Found-clause-finds g c =
+    let m = c.args.self.now in
+    let n = c.look.new.self in
+    let r = c.args.reader.now in
+    let a = placed c.bits-bits.result in
+    let s = c.bits-bits.follows.lender-at-none in
+    let seen = rw c.in-Found.is at c.in-Ok.ensures.looks in
+    (seen.0, seen.1, rw c.catch_up.ensures (look_found m n r a s seen.0 c.args.values.now.taker c.look.new.values.taker c.in-Found.step (c.after.result - c.position-first.result) c.requires.live c.bits-bits.follows.holds-at-none seen.2 (omega (arith, c.after.ensures, c.position-first.ensures))))
+
+pub returns-in-Late-clause-finds : goal.returns-in-Late-clause-finds
+returns-in-Late-clause-finds g c =
+    let m = c.args.self.now in
+    let k = c.look.new.self in
+    let r = c.args.reader.now in
+    let a = placed c.bits-bits.result in
+    let s = c.bits-bits.follows.lender-at-none in
+    let seen = rw c.in-Late.is at c.in-Ok.ensures.looks in
+    let finds = c.next_exact.ensures.finds in
+    (finds.0, finds.1, next_looked m k r s finds.0 c.next_exact.result c.next_exact.new.self c.next_exact.new.reader seen.2.0 (stays_shown r a s c.requires.live c.bits-bits.follows.holds-at-none) finds.2)
+
+pub returns-in_ok-head-in-Record-clause-finds : goal.returns-in_ok-head-in-Record-clause-finds
+returns-in_ok-head-in-Record-clause-finds g c =
+    let m = c.args.self.now in
+    let k = c.look.new.self in
+    let n = c.note.new.self in
+    let r = c.args.reader.now in
+    let a = placed c.bits-bits.result in
+    let s = c.bits-bits.follows.lender-at-none in
+    let seen = rw c.in-Record.is at c.in-Ok.ensures.looks in
+    look_noted g.V.ValueTaker.took c.note.new.values.taker m k n r a s c.note.new.reader c.in-Record.id c.position-first.result c.id_width.result c.in_ok-head-in-Record.head c.requires.live c.bits-bits.follows.holds-at-none seen.2 c.position-first.ensures c.id_width.ensures.least c.id_width.ensures.inside (rw (c.catch_up-in-Record.ensures, c.from.ensures) at c.in_ok-head-in-Record.ensures.takes) c.in_ok-head-in-Record.ensures.head (rw (c.catch_up-in-Record.ensures, c.from.ensures) at c.in_ok-head-in-Record.ensures.leaves)
+
+pub returns-in_err-head-in-Record-clause-finds : goal.returns-in_err-head-in-Record-clause-finds
+returns-in_err-head-in-Record-clause-finds g c =
     let p = err_from_is_err_and c.from_residual.result c.from_residual.ensures.1 in
-    (c.requires.took.0, c.requires.took.1, rw (p.1, p.2) (finds_shut c.args.limits.now c.args.self.now c.args.reader.now c.shuts.new.reader c.is_outside-outside.result c.in_err-shuts.field-0.0 c.is_outside-outside.ensures.0 c.in_err-shuts.ensures))
+    let m = c.args.self.now in
+    let k = c.look.new.self in
+    let n = c.note.new.self in
+    let r = c.args.reader.now in
+    let a = placed c.bits-bits.result in
+    let s = c.bits-bits.follows.lender-at-none in
+    let seen = rw c.in-Record.is at c.in-Ok.ensures.looks in
+    rw (p.1, p.2) (look_missed g.V.ValueTaker.took c.note.new.values.taker m k n r a s c.note.new.reader c.in-Record.id c.position-first.result c.id_width.result c.in_err-head-in-Record.field-0.0 c.requires.live c.bits-bits.follows.holds-at-none seen.2 c.position-first.ensures c.id_width.ensures.inside (rw (c.catch_up-in-Record.ensures, c.from.ensures) at c.in_err-head-in-Record.ensures.takes))
 
-pub returns-then-branch-clause-finds : goal.returns-then-branch-clause-finds
-returns-then-branch-clause-finds g c =
-    let shut = subst (λ (b : Bool). Shuts c.is_outside-outside.result c.args.reader.now (Ok b) c.shuts.new.reader) c.if-branch.true c.in_ok-shuts.ensures in
-    (c.requires.took.0, c.requires.took.1, finds_end c.args.limits.now c.args.self.now c.args.reader.now c.shuts.new.reader (c.is_outside-outside.ensures.0 shut.0) shut.1)
+pub overflow_sub-after : goal.overflow_sub-after
+overflow_sub-after g c =
+    let m = c.args.self.now in
+    let k = c.look.new.self in
+    let r = c.args.reader.now in
+    let a = placed c.bits-bits.result in
+    let s = c.bits-bits.follows.lender-at-none in
+    let shows = c.bits-bits.follows.holds-at-none in
+    let seen = rw c.in-Found.is at c.in-Ok.ensures.looks in
+    omega (arith, seen.2.moves, seen.2.after, c.after.ensures, c.position-first.ensures)
 
-pub returns-in_err-step-clause-finds : goal.returns-in_err-step-clause-finds
-returns-in_err-step-clause-finds g c =
-    let p = err_from_is_err_and c.from_residual-in_err-step.result c.from_residual-in_err-step.ensures.1 in
-    let shut = subst (λ (b : Bool). Shuts c.is_outside-outside.result c.args.reader.now (Ok b) c.shuts.new.reader) c.if-branch.false c.in_ok-shuts.ensures in
-    let ready : Ready c.args.self.now c.args.reader.now c.shuts.new.reader = (shut.0, λ none. shut.1 (c.is_outside-outside.ensures.1 none)) in
-    let read = c.in_err-step.ensures.takes in
-    (read.0, read.1, rw (p.1, p.2) (finds_fault c.args.limits.now c.args.self.now c.args.reader.now c.shuts.new.reader c.in_err-step.field-0.0 c.step.new.reader ready read.2))
+pub catch_up-requires : goal.catch_up-requires
+catch_up-requires g c =
+    let m = c.args.self.now in
+    let k = c.look.new.self in
+    let r = c.args.reader.now in
+    let a = placed c.bits-bits.result in
+    let s = c.bits-bits.follows.lender-at-none in
+    let shows = c.bits-bits.follows.holds-at-none in
+    let seen = rw c.in-Found.is at c.in-Ok.ensures.looks in
+    found_there m k r a s seen.0 c.args.values.now.taker c.look.new.values.taker c.in-Found.step (c.after.result - c.position-first.result) shows seen.2 (omega (arith, c.after.ensures, c.position-first.ensures))
 
-pub returns-clause-finds : goal.returns-clause-finds
-returns-clause-finds g c =
-    let shut = subst (λ (b : Bool). Shuts c.is_outside-outside.result c.args.reader.now (Ok b) c.shuts.new.reader) c.if-branch.false c.in_ok-shuts.ensures in
-    let ready : Ready c.args.self.now c.args.reader.now c.shuts.new.reader = (shut.0, λ none. shut.1 (c.is_outside-outside.ensures.1 none)) in
-    let read = c.in_ok-step.ensures.takes in (
-      read.0,
-      read.1,
-      (
-        finds_event c.args.limits.now c.args.self.now c.step.new.self (step_shown c.step.new.self read.0 c.in_ok-step.step) c.args.reader.now c.shuts.new.reader c.step.new.reader ready read.2 (c.in_ok-step.ensures.leaves read.0),
-        omega (arith, shut.0.position, c.in_ok-step.ensures.moves),
-      ),
-    )
+pub catch_up-requires-in-Record : goal.catch_up-requires-in-Record
+catch_up-requires-in-Record g c =
+    let m = c.args.self.now in
+    let k = c.look.new.self in
+    let r = c.args.reader.now in
+    let a = placed c.bits-bits.result in
+    let s = c.bits-bits.follows.lender-at-none in
+    let shows = c.bits-bits.follows.holds-at-none in
+    let seen = rw c.in-Record.is at c.in-Ok.ensures.looks in
+    omega (arith, seen.2.there, shows.there, shows.looks.there, c.id_width.ensures.most, c.from.ensures)
+
+pub next_exact-requires-clause-aligned : goal.next_exact-requires-clause-aligned
+next_exact-requires-clause-aligned g c = λ none.
+    let m = c.args.self.now in
+    let k = c.look.new.self in
+    let r = c.args.reader.now in
+    let a = placed c.bits-bits.result in
+    let s = c.bits-bits.follows.lender-at-none in
+    let shows = c.bits-bits.follows.holds-at-none in
+    let seen = rw c.in-Late.is at c.in-Ok.ensures.looks in
+    rw shows.looks.position (c.requires.aligned (sym seen.2.0.frames ∙ none))
+
+pub next_exact-requires-clause-live : goal.next_exact-requires-clause-live
+next_exact-requires-clause-live g c = c.bits-bits.follows.holds-at-none.looks.live ∙ c.requires.live
+
+pub next_exact-requires-clause-sound : goal.next_exact-requires-clause-sound
+next_exact-requires-clause-sound g c = (let seen = rw c.in-Late.is at c.in-Ok.ensures.looks in seen.2.0.sound)
+
+pub note-requires-clause-live : goal.note-requires-clause-live
+note-requires-clause-live g c = rw c.catch_up-in-Record.ensures (c.bits-bits.follows.holds-at-none.looks.live ∙ c.requires.live)
+
+pub note-requires-clause-some : goal.note-requires-clause-some
+note-requires-clause-some g c = (let seen = rw c.in-Record.is at c.in-Ok.ensures.looks in omega (arith, seen.2.some, seen.2.same.frames))
+
+pub note-requires-clause-sound : goal.note-requires-clause-sound
+note-requires-clause-sound g c = (let seen = rw c.in-Record.is at c.in-Ok.ensures.looks in seen.2.same.sound)
+
+pub note-requires-clause-id : goal.note-requires-clause-id
+note-requires-clause-id g c = (let seen = rw c.in-Record.is at c.in-Ok.ensures.looks in seen.2.is_record)
+
+pub note-requires-clause-fits : goal.note-requires-clause-fits
+note-requires-clause-fits g c = (let seen = rw c.in-Record.is at c.in-Ok.ensures.looks in seen.2.fits)
