@@ -1,19 +1,21 @@
+//! Runs of records that are walked over in buffered bits.
+
 ghost use Rattle.std.specs.Prelude.{◌≡◌, ◌+◌, ◌<◌, ◌≤◌, true, false, ℕ, List, [], IfSome, IfOk, length};
 ghost use Rattle.bit_grammar.specs.declared.op.Op.{Op};
-ghost use Rattle.bit_grammar.specs.Blocks.{entry};
 ghost use Rattle.bit_grammar.specs.Marks.{RecordMark};
 ghost use Rattle.bit_grammar.specs.Fields.{fixed};
 ghost use Rattle.bit_fields.specs.Buffered.{Reads, beyond};
 ghost use Rattle.bit_fields.specs.PlacedView.{placed};
-ghost use Rattle.bit_abbrev.specs.Plans.{PassesOver};
-ghost use Rattle.bit_events.specs.Passing.{CountsOne, PassesOn, PassesRecords, StepsOn, mark_of};
-//! Runs of records that are walked over in buffered bits.
+ghost use Rattle.bit_abbrev.specs.BlockPlans.{all_of_block, KeepsBlock, StandsFor};
+ghost use Rattle.bit_events.specs.Passing.{CountsOne, CountsRun, HandsOn, IsMarkOf, PassesRecords, StepsOn, WalksRun};
 
 use bit_abbrev::{
-    BlockDefinitions, Coming, Counting, FEW, Listing, MARGIN, Planned, Visitor, Walked,
+    BlockDefinitions, Coming, Counting, FEW, Listing, MARGIN, Planned, Walked, Walker,
 };
-use bit_fields::PlacedBits;
 use std::alloc::AllocError;
+
+/// How many plans are made for a block at most.
+const MOST_PLANS: u64 = 256;
 
 /// Records that were walked over: the place for values after them, the bit after them, how many values may still come, and whether an
 /// item comes there that is no record.
@@ -28,7 +30,10 @@ pub struct PassedRun {
 impl PassedRun {
     /// No record.
     #[inline(always)]
-    pub fn none(next: Coming<'_>) -> PassedRun {
+    pub fn none(next: Coming<'_>) -> PassedRun
+        ensures { (definitions : List (List Op)) → PassesRecords next.entry.width definitions
+            next.entry.room (placed next.entry.bits) [] result }
+    {
         PassedRun {
             at: next.at,
             after: next.bits.position(),
@@ -50,8 +55,24 @@ pub struct CountedRecord {
 
 /// Takes records that are walked over.
 pub trait RunCounter {
+    ghost use Rattle.std.specs.Prelude.{Bool, List};
+    ghost use Rattle.bit_grammar.specs.Marks.{RecordMark};
+
+    // Whether counting these records, in order, turns the one into the other.
+    ghost counted: { Self → List RecordMark → Self → Type 0 };
+
+    // Whether it goes by the codes of records.
+    ghost asks: { Bool };
+
+    // Whether it goes by their values.
+    ghost lists: { Bool };
+
     /// Takes a record, with its values if they were wanted, or returns `false` and leaves it: then it is not walked over.
-    fn count(&mut self, passed: CountedRecord, values: &[u64]) -> Result<bool, AllocError>;
+    fn count(&mut self, passed: CountedRecord, values: &[u64]) -> Result<bool, AllocError>
+        requires { passed.first ≤ passed.after }
+        ensures counts { IfOk result (λ counts. counts ≡ true → (mark : RecordMark)
+            → IsMarkOf asks lists passed values.now mark → CountsOne counted self.old mark self.new) }
+        ensures leaves { IfOk result (λ counts. counts ≡ false → self.new ≡ self.old) };
 }
 
 /// Takes nothing.
@@ -59,6 +80,12 @@ pub trait RunCounter {
 pub struct Uncounted;
 
 impl RunCounter for Uncounted {
+    ghost counted = { λ _ _ _. Unit {0} };
+
+    ghost asks = { false };
+
+    ghost lists = { false };
+
     #[inline(always)]
     fn count(&mut self, _passed: CountedRecord, _values: &[u64]) -> Result<bool, AllocError> {
         Ok(true)
@@ -73,7 +100,12 @@ fn hand_on<'a, R: RunCounter>(
     walked: Walked,
     values: &[u64],
     counter: &mut R,
-) -> Result<Option<Coming<'a>>, AllocError> {
+) -> Result<Option<Coming<'a>>, AllocError>
+    requires within { next.width + walked.len ≤ length (placed next.bits).bits }
+    requires few { walked.count ≤ next.room }
+    ensures { IfOk result (HandsOn R.counted R.asks R.lists id next.entry walked values.now counter.old
+        counter.new) }
+{
     let Coming {
         bits,
         width,
@@ -107,13 +139,30 @@ fn hand_on<'a, R: RunCounter>(
 
 /// Walks over a record with this abbreviation id and hands it on: what comes behind it. `None` if it is not walked over.
 #[inline(always)]
-fn walk_next<'a, C, V: Visitor<C>, R: RunCounter>(
+fn walk_next<'a, C, V: Walker<C>, R: RunCounter>(
     by: V,
     cells: &mut [C],
     next: Coming<'a>,
     id: u64,
     counter: &mut R,
-) -> Result<Option<Coming<'a>>, AllocError> {
+) -> Result<Option<Coming<'a>>, AllocError>
+    requires suits { V.suits by cells.old }
+    requires room { V.has_room by next.at }
+    requires width { next.width ≤ 32 }
+    requires there { 2240 ≤ length (placed next.bits).bits }
+    requires id { 3 ≤ id }
+    requires reads { Reads (fixed next.width) (placed next.bits) id (beyond (placed next.bits) next.width) }
+    requires knows { (definitions : List (List Op)) × V.knows by definitions }
+    requires codes { R.asks ≡ true → V.tells ≡ true }
+    requires lists { R.lists ≡ true → V.lists ≡ true }
+    ensures suits { V.suits by cells.new }
+    ensures spares { V.spares by cells.old next.entry.at cells.new }
+    ensures steps { IfOk result (λ step. (definitions : List (List Op)) → V.knows by definitions
+        → StepsOn (V.keeps by) R.counted definitions next.entry counter.old cells.old counter.new
+        cells.new step) }
+    ensures moves { IfOk result (λ step. IfSome step (λ behind.
+        length (placed behind.bits).bits < length (placed next.entry.bits).bits)) }
+{
     if by.is_split() && id == 3 {
         let Some(walked) = by.plain(cells, next) else {
             return Ok(None);
@@ -133,12 +182,22 @@ fn walk_next<'a, C, V: Visitor<C>, R: RunCounter>(
 
 /// Walks over records, as long as they are not odd, there is room for what they store, and a margin of bits is there.
 #[inline(never)]
-pub fn walk_run<C, V: Visitor<C>, R: RunCounter>(
+pub fn walk_run<C, V: Walker<C>, R: RunCounter>(
     by: V,
     cells: &mut [C],
     first: Coming<'_>,
     counter: &mut R,
-) -> Result<PassedRun, AllocError> {
+) -> Result<PassedRun, AllocError>
+    requires suits { V.suits by cells.old }
+    requires width { first.width ≤ 32 }
+    requires knows { (definitions : List (List Op)) × V.knows by definitions }
+    requires codes { R.asks ≡ true → V.tells ≡ true }
+    requires lists { R.lists ≡ true → V.lists ≡ true }
+    ensures suits { V.suits by cells.new }
+    ensures walks { IfOk result (λ run. (definitions : List (List Op)) → V.knows by definitions
+        → WalksRun (V.keeps by) (V.ends by) R.counted definitions first.entry counter.old cells.old
+        run counter.new cells.new) }
+{
     let width = first.width;
     let mut at = first.at;
     let mut bits = first.bits;
@@ -179,10 +238,20 @@ fn pass_planned<R: RunCounter>(
     first: Coming<'_>,
     definitions: &mut BlockDefinitions<'_>,
     counter: &mut R,
-) -> Result<PassedRun, AllocError> {
+) -> Result<PassedRun, AllocError>
+    requires stands { StandsFor definitions.old }
+    requires width { first.width ≤ 32 }
+    requires lists { R.lists ≡ false }
+    ensures same_reference { definitions.new.definitions.ghost_name ≡ definitions.old.definitions.ghost_name }
+    ensures marks { definitions.new.marks ≡ definitions.old.marks }
+    ensures keeps { KeepsBlock definitions.old.marks definitions.old.definitions.now
+        definitions.new.definitions.now }
+    ensures counts { IfOk result (λ run. CountsRun R.counted (all_of_block definitions.old) first.entry
+        counter.old run counter.new) }
+{
     let mut none = [0_u8; 1];
     let mut next = first;
-    loop {
+    for _ in 0..=MOST_PLANS {
         let by = Planned {
             plans: definitions.plans(),
         };
@@ -193,10 +262,11 @@ fn pass_planned<R: RunCounter>(
             return Ok(run);
         }
         let id = next.id();
-        if id == 3 || !definitions.plan(id)? {
+        if id <= 3 || !definitions.plan((id - 4) as usize)? {
             return Ok(run);
         }
     }
+    Ok(PassedRun::none(next))
 }
 
 /// Passes over records: first by plans of definitions, then by their operands.
@@ -205,7 +275,15 @@ pub fn pass_records<R: RunCounter>(
     next: Coming<'_>,
     definitions: BlockDefinitions<'_>,
     counter: &mut R,
-) -> Result<PassedRun, AllocError> {
+) -> Result<PassedRun, AllocError>
+    requires stands { StandsFor definitions }
+    requires width { next.width ≤ 32 }
+    requires lists { R.lists ≡ false }
+    ensures keeps { KeepsBlock definitions.entry.marks definitions.entry.definitions.now
+        definitions.exit.0.now }
+    ensures counts { IfOk result (λ run. CountsRun R.counted (all_of_block definitions.entry) next.entry
+        counter.old run counter.new) }
+{
     let mut definitions = definitions;
     let run = pass_planned(next, &mut definitions, counter)?;
     if run.is_over {
@@ -226,7 +304,14 @@ pub fn list_records<R: RunCounter>(
     next: Coming<'_>,
     definitions: BlockDefinitions<'_>,
     counter: &mut R,
-) -> Result<PassedRun, AllocError> {
+) -> Result<PassedRun, AllocError>
+    requires stands { StandsFor definitions }
+    requires width { next.width ≤ 32 }
+    ensures keeps { KeepsBlock definitions.entry.marks definitions.entry.definitions.now
+        definitions.exit.0.now }
+    ensures counts { IfOk result (λ run. CountsRun R.counted (all_of_block definitions.entry) next.entry
+        counter.old run counter.new) }
+{
     let by = Listing {
         definitions: &definitions.in_force(),
     };
