@@ -177,27 +177,49 @@ pub run_counts : {C R : Type 0} (keeps : List C → ℕ → ℕ → List ℕ →
     → WalksRun keeps ends counted definitions next old first run new last → CountsRun counted definitions next old run new
 run_counts keeps ends counted definitions next old first run new last so = record { records = so.records; passes = so.passes; counts = so.counts }
 
--- what was counted is in a run
-pub no_run : {R : Type 0} (counted : R → List RecordMark → R → Type 0) (definitions : List (List Op)) (next : Coming) (old : R) (run : PassedRun) → run.room ≡ next.room → run.after ≡ (placed next.bits).position → CountsRun counted definitions next old run old
-no_run counted definitions next old run room_is after_is = record {
-  records = [];
-  passes = passes_records next.width definitions next.room (placed next.bits) [] next.room (placed next.bits) run (refl, refl) room_is after_is;
-  counts = counts_none counted old;
-}
+-- records were counted, up to what comes next
+pub record CountedTo {R : Type 0} (counted : R → List RecordMark → R → Type 0) (definitions : List (List Op)) (first : Coming) (old : R) (next : Coming) (new : R) : Type 0 where
+  pub width : next.width ≡ first.width
+  pub records : List RecordMark
+  pub reads : ReadsRecords first.width definitions first.room (placed first.bits) records next.room (placed next.bits)
+  pub counts : CountsAll counted old records new
 
--- a run, and then another one from where it ended
-pub runs_both : {R : Type 0} (counted : R → List RecordMark → R → Type 0) (definitions : List (List Op)) (next : Coming) (old : R) (run : PassedRun) (mid : R) (rest : Coming) (last : PassedRun) (new : R) → rest.width ≡ next.width → rest.room ≡ run.room → placed rest.bits ≡ beyond (placed next.bits) (run.after - (placed next.bits).position)
-    → CountsRun counted definitions next old run mid → CountsRun counted definitions rest mid last new → CountsRun counted definitions next old last new
-runs_both counted definitions next old run mid rest last new wide room_is bits_is one two =
-    let a = placed next.bits in
-    let b = beyond a (run.after - a.position) in
-    let c = beyond (placed rest.bits) (last.after - (placed rest.bits).position) in
-    let more : ReadsRecords next.width definitions run.room b two.records last.room c = subst (λ (x : BufferedBits). ReadsRecords next.width definitions run.room x two.records last.room c) bits_is (subst (λ (n : ℕ). ReadsRecords next.width definitions n (placed rest.bits) two.records last.room c) room_is (subst (λ (w : ℕ). ReadsRecords w definitions rest.room (placed rest.bits) two.records last.room c) wide two.passes.reads)) in
+pub counted_none : {R : Type 0} (counted : R → List RecordMark → R → Type 0) (definitions : List (List Op)) (first : Coming) (old : R) → CountedTo counted definitions first old first old
+counted_none counted definitions first old = record { width = refl; records = []; reads = (refl, refl); counts = counts_none counted old }
+
+-- a run from there on, by the bits that it ends at
+run_reads : (definitions : List (List Op)) (first : Coming) (room : ℕ) (a : BufferedBits) (next : Coming) (records : List RecordMark) (left : ℕ) (b : BufferedBits) → next.width ≡ first.width → next.room ≡ room → placed next.bits ≡ a → ReadsRecords next.width definitions next.room (placed next.bits) records left b → ReadsRecords first.width definitions room a records left b
+run_reads definitions first room a next records left b wide room_is bits_are so =
+    subst (λ (x : BufferedBits). ReadsRecords first.width definitions room x records left b) bits_are (subst (λ (n : ℕ). ReadsRecords first.width definitions n (placed next.bits) records left b) room_is (subst (λ (w : ℕ). ReadsRecords w definitions next.room (placed next.bits) records left b) wide so))
+
+-- and then a run
+pub counted_more : {R : Type 0} (counted : R → List RecordMark → R → Type 0) (definitions : List (List Op)) (first : Coming) (old : R) (next : Coming) (mid : R) (run : PassedRun) (new : R) (rest : Coming) → rest.width ≡ next.width → rest.room ≡ run.room → placed rest.bits ≡ beyond (placed next.bits) (run.after - (placed next.bits).position)
+    → CountedTo counted definitions first old next mid → CountsRun counted definitions next mid run new → CountedTo counted definitions first old rest new
+counted_more counted definitions first old next mid run new rest wide room_is bits_are so ran =
+    let b = beyond (placed next.bits) (run.after - (placed next.bits).position) in
+    let more : ReadsRecords first.width definitions next.room (placed next.bits) ran.records run.room b = run_reads definitions first next.room (placed next.bits) next ran.records run.room b so.width refl refl ran.passes.reads in
+    let all : ReadsRecords first.width definitions first.room (placed first.bits) (so.records ++ ran.records) run.room b = reads_then first.width definitions first.room (placed first.bits) so.records next.room (placed next.bits) ran.records run.room b so.reads more in
     record {
-      records = one.records ++ two.records;
-      passes = passes_records next.width definitions next.room a (one.records ++ two.records) last.room c last (reads_then next.width definitions next.room a one.records run.room b two.records last.room c one.passes.reads more) refl (omega (arith, two.passes.forward));
-      counts = counts_then counted old one.records mid two.records new one.counts two.counts;
+      width = wide ∙ so.width;
+      records = so.records ++ ran.records;
+      reads = subst (λ (x : BufferedBits). ReadsRecords first.width definitions first.room (placed first.bits) (so.records ++ ran.records) rest.room x) (sym bits_are) (subst (λ (n : ℕ). ReadsRecords first.width definitions first.room (placed first.bits) (so.records ++ ran.records) n b) (sym room_is) all);
+      counts = counts_then counted old so.records mid ran.records new so.counts ran.counts;
     }
+
+-- the last one
+pub counted_run : {R : Type 0} (counted : R → List RecordMark → R → Type 0) (definitions : List (List Op)) (first : Coming) (old : R) (next : Coming) (mid : R) (run : PassedRun) (new : R) → CountedTo counted definitions first old next mid → CountsRun counted definitions next mid run new → CountsRun counted definitions first old run new
+counted_run counted definitions first old next mid run new so ran =
+    let b = beyond (placed next.bits) (run.after - (placed next.bits).position) in
+    let more : ReadsRecords first.width definitions next.room (placed next.bits) ran.records run.room b = run_reads definitions first next.room (placed next.bits) next ran.records run.room b so.width refl refl ran.passes.reads in
+    record {
+      records = so.records ++ ran.records;
+      passes = passes_records first.width definitions first.room (placed first.bits) (so.records ++ ran.records) run.room b run (reads_then first.width definitions first.room (placed first.bits) so.records next.room (placed next.bits) ran.records run.room b so.reads more) refl (omega (arith, ran.passes.forward));
+      counts = counts_then counted old so.records mid ran.records new so.counts ran.counts;
+    }
+
+-- no run
+pub counted_still : {R : Type 0} (counted : R → List RecordMark → R → Type 0) (definitions : List (List Op)) (next : Coming) (old : R) (run : PassedRun) → PassesRecords next.width definitions next.room (placed next.bits) [] run → CountsRun counted definitions next old run old
+counted_still counted definitions next old run passes = record { records = []; passes = passes; counts = counts_none counted old }
 
 -- ---- gathering
 

@@ -26,5 +26,7 @@ returns-clause-walks g c = λ definitions known.
       | then-loop-by-test+else-not-is_full w ↦ rw (w.cells-is, w.counter-is) (walks_run K E T definitions f c.args.counter.now c.args.cells.now run l.counter l.cells (placed l.bits) l.cells (l.invariant.walks definitions known) c.position-after.ensures (inl refl))
       | else-loop-by-test w ↦ rw (w.cells-is, w.counter-is) (walks_run K E T definitions f c.args.counter.now c.args.cells.now run l.counter l.cells (placed l.bits) l.cells (l.invariant.walks definitions known) c.position-after.ensures (inl refl))
       | then-loop-by-test+then-not-is_full+then-id-lt3 w ↦ rw (w.cells-is, w.counter-is) (walks_run K E T definitions f c.args.counter.now c.args.cells.now run l.counter l.cells (placed l.bits) l.cells (l.invariant.walks definitions known) c.position-after.ensures (inl refl))
-      | then-loop-by-test+then-not-is_full+else-id-lt3+in_ok-behind+in_default w ↦ ?
+      | then-loop-by-test+then-not-is_full+else-id-lt3+in_ok-behind+in_default w ↦
+        (let still : w.walk_next.new.counter ≡ l.counter = rw w.in_default.is at (w.in_ok-behind.ensures.steps definitions known) in
+        rw (w.cells-is, w.counter-is, still) (walks_run K E T definitions f c.args.counter.now c.args.cells.now run l.counter l.cells (placed l.bits) w.take_back.new.cells (l.invariant.walks definitions known) c.position-after.ensures (inr (w.take_back.ensures.ends l.cells w.walk_next.ensures.spares))))
     ]
