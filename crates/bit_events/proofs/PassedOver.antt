@@ -221,6 +221,16 @@ counted_run counted definitions first old next mid run new so ran =
 pub counted_still : {R : Type 0} (counted : R → List RecordMark → R → Type 0) (definitions : List (List Op)) (next : Coming) (old : R) (run : PassedRun) → PassesRecords next.width definitions next.room (placed next.bits) [] run → CountsRun counted definitions next old run old
 counted_still counted definitions next old run passes = record { records = []; passes = passes; counts = counts_none counted old }
 
+-- the same of what calls answer
+pub counts_of : {C R E : Type 0} (keeps : List C → ℕ → ℕ → List ℕ → List C → ℕ → Type 0) (ends : List C → ℕ → List C → Type 0) (counted : R → List RecordMark → R → Type 0) (knows : List (List Op) → Type 0) (definitions : List (List Op)) (next : Coming) (old : R) (first : List C) (new : R) (last : List C) (result : Result PassedRun E) → knows definitions
+    → IfOk result (λ run. (some : List (List Op)) → knows some → WalksRun keeps ends counted some next old first run new last) → IfOk result (λ run. CountsRun counted definitions next old run new)
+counts_of keeps ends counted knows definitions next old first new last (Ok run) known walks = run_counts keeps ends counted definitions next old first run new last (walks definitions known)
+counts_of keeps ends counted knows definitions next old first new last (Err e) known walks = tt
+
+pub counted_ran : {R E : Type 0} (counted : R → List RecordMark → R → Type 0) (definitions : List (List Op)) (first : Coming) (old : R) (next : Coming) (mid new : R) (result : Result PassedRun E) → CountedTo counted definitions first old next mid → IfOk result (λ run. CountsRun counted definitions next mid run new) → IfOk result (λ run. CountsRun counted definitions first old run new)
+counted_ran counted definitions first old next mid new (Ok run) so ran = counted_run counted definitions first old next mid run new so ran
+counted_ran counted definitions first old next mid new (Err e) so ran = tt
+
 -- ---- gathering
 
 -- no record was gathered

@@ -14,8 +14,8 @@ use bit_abbrev::{
 };
 use std::alloc::AllocError;
 
-/// How many plans are made for a block at most.
-const MOST_PLANS: u64 = 256;
+/// How often a run is begun again behind a plan that was made: a block has 256 plans at most.
+const MOST_RUNS: u64 = 257;
 
 /// Records that were walked over: the place for values after them, the bit after them, how many values may still come, and whether an
 /// item comes there that is no record.
@@ -232,6 +232,65 @@ pub fn walk_run<C, V: Walker<C>, R: RunCounter>(
     })
 }
 
+/// Passes over records by the plans that are made.
+#[inline(always)]
+fn pass_by_plans<R: RunCounter>(
+    next: Coming<'_>,
+    definitions: &BlockDefinitions<'_>,
+    counter: &mut R,
+) -> Result<PassedRun, AllocError>
+    requires stands { StandsFor definitions.now }
+    requires width { next.width ≤ 32 }
+    requires lists { R.lists ≡ false }
+    ensures { IfOk result (λ run. CountsRun R.counted (all_of_block definitions.now) next.entry
+        counter.old run counter.new) }
+{
+    let by = Planned {
+        plans: definitions.plans(),
+    };
+    walk_run(by, &mut [0; 1], next, counter)
+}
+
+/// Passes over records by the operands of their definitions.
+#[inline(always)]
+fn pass_by_operands<R: RunCounter>(
+    next: Coming<'_>,
+    definitions: &BlockDefinitions<'_>,
+    counter: &mut R,
+) -> Result<PassedRun, AllocError>
+    requires stands { StandsFor definitions.now }
+    requires width { next.width ≤ 32 }
+    requires lists { R.lists ≡ false }
+    ensures { IfOk result (λ run. CountsRun R.counted (all_of_block definitions.now) next.entry
+        counter.old run counter.new) }
+{
+    let by = Counting {
+        definitions: &definitions.in_force(),
+    };
+    walk_run(by, &mut [0; 1], next, counter)
+}
+
+/// Makes the plan for the record that comes next, and returns whether one was made that passes over records.
+#[inline(always)]
+fn plan_next(
+    next: Coming<'_>,
+    definitions: &mut BlockDefinitions<'_>,
+) -> Result<bool, AllocError>
+    requires stands { StandsFor definitions.old }
+    requires width { next.width ≤ 32 }
+    requires there { 64 ≤ length (placed next.bits).bits }
+    ensures same_reference { definitions.new.definitions.ghost_name ≡ definitions.old.definitions.ghost_name }
+    ensures marks { definitions.new.marks ≡ definitions.old.marks }
+    ensures keeps { KeepsBlock definitions.old.marks definitions.old.definitions.now
+        definitions.new.definitions.now }
+{
+    let id = next.id();
+    if id <= 3 {
+        return Ok(false);
+    }
+    definitions.plan((id - 4) as usize)
+}
+
 /// Passes over records by the plans of their definitions, which are made when they are first needed.
 #[inline(always)]
 fn pass_planned<R: RunCounter>(
@@ -249,20 +308,15 @@ fn pass_planned<R: RunCounter>(
     ensures counts { IfOk result (λ run. CountsRun R.counted (all_of_block definitions.old) first.entry
         counter.old run counter.new) }
 {
-    let mut none = [0_u8; 1];
     let mut next = first;
-    for _ in 0..=MOST_PLANS {
-        let by = Planned {
-            plans: definitions.plans(),
-        };
-        let run = walk_run(by, &mut none, next, counter)?;
+    'runs: for _ in 0..MOST_RUNS {
+        let run = pass_by_plans(next, definitions, counter)?;
         next.bits = next.bits.at(run.after);
         next.room = run.room;
         if run.is_over || !next.bits.has(MARGIN) {
             return Ok(run);
         }
-        let id = next.id();
-        if id <= 3 || !definitions.plan((id - 4) as usize)? {
+        if !plan_next(next, definitions)? {
             return Ok(run);
         }
     }
@@ -292,10 +346,7 @@ pub fn pass_records<R: RunCounter>(
     let mut rest = next;
     rest.bits = next.bits.at(run.after);
     rest.room = run.room;
-    let by = Counting {
-        definitions: &definitions.in_force(),
-    };
-    walk_run(by, &mut [0; 1], rest, counter)
+    pass_by_operands(rest, &definitions, counter)
 }
 
 /// Reads records of few values.
