@@ -6,6 +6,7 @@ use Rattle.bit_grammar.specs.Fields.{fixed}
 use Rattle.bit_grammar.specs.Machine.{Event, notes}
 use Rattle.bit_grammar.specs.Marks.{RecordMark}
 use Rattle.bit_fields.specs.Buffered.{BufferedBits, Reads, beyond}
+use Rattle.bit_fields.specs.declared.placed.PlacedBits.{PlacedBits}
 use Rattle.bit_fields.specs.PlacedView.{placed}
 use Rattle.bit_abbrev.specs.declared.coming.Coming.{Coming}
 use Rattle.bit_abbrev.specs.declared.coming.Walked.{Walked}
@@ -14,6 +15,10 @@ use Rattle.bit_events.specs.declared.passing.PassedRun.{PassedRun}
 use Rattle.bit_events.specs.Gathering.{left_open}
 
 -- ---- records in bits
+
+-- what comes in these bits: ids of this width, and at most so many values
+abbrev pub coming_of : (width room : ℕ) → PlacedBits → Coming
+coming_of width room bits = record { at = 0; bits = bits; width = width; room = room }
 
 -- This record comes first in the bits, up to others, in a block with ids of this width and these definitions in force. So many values
 -- may come before it and after it.

@@ -1,41 +1,44 @@
-ghost use Rattle.std.specs.Prelude.{◌≡◌, ◌<◌, ◌≤◌, ◌-◌, ◌+◌, false, ℕ, List, [], ◌∷◌, None, IfSome, OnSome, IfOk, OnErr, length};
-ghost use Rattle.bit_grammar.specs.Fields.{fixed};
-ghost use Rattle.bit_grammar.specs.Blocks as blocks;
-ghost use Rattle.bit_grammar.specs.Blocks.{Handed};
-ghost use Rattle.bit_grammar.specs.Machine as machine;
-ghost use Rattle.bit_grammar.specs.Machine.{step_of};
-ghost use Rattle.bit_fields.specs.Buffered.{Reads, beyond};
-ghost use Rattle.bit_fields.specs.BufferedParts.{bits_of_parts, AreParts};
-ghost use Rattle.bit_fields.specs.PlacedView.{placed};
-ghost use Rattle.bit_abbrev.specs.Values.{Gains, Has, Keeps};
-ghost use Rattle.bit_events.specs.FrameView.{frame_shown};
-ghost use Rattle.bit_events.specs.MachineView.{record_of, TookSome};
-ghost use Rattle.bit_events.specs.Runs.{AddsBehind, GathersRun, ReadsTo, SeesRecord, StopsRun};
 //! Records that lie whole in buffered bits, given to a gatherer.
 
+ghost use Rattle.std.specs.Prelude.{◌≡◌, ◌%◌, ◌≤◌, ◌∷◌, true, List, IfOk, OnErr, vec_len};
+ghost use Rattle.bit_fields.specs.PlacedView.{placed};
+ghost use Rattle.bit_abbrev.specs.BlockMarks.{in_force};
+ghost use Rattle.bit_abbrev.specs.BlockPlans.{KeepsBlock};
+ghost use Rattle.bit_events.specs.declared.frame.Frame.{Frame};
+ghost use Rattle.bit_events.specs.MachineView.{InPlain, IsMachine, TookSome, open_in};
+ghost use Rattle.bit_events.specs.Passing.{PassesRun, coming_of};
+ghost use Rattle.bit_events.specs.Runs.{GathersOn, GathersUpTo, StopsOn};
+
+use crate::frame::Frame;
 use crate::gatherer::Gatherer;
 use crate::machine::Machine;
+use crate::passing::PassedRun;
 use crate::with_first::WithFirst;
 use bit_abbrev::{BlockDefinitions, Coming, MARGIN};
 use bit_fields::PlacedBits;
 use std::alloc::AllocError;
 
-/// Lets the gatherer walk over records of the innermost block. Returns the bits behind them, and whether no record comes there.
+/// Lends the gatherer the definitions of the innermost block, which has this frame, to walk over records of at most so many values.
 #[inline(always)]
-fn gather_run<'a, G: Gatherer>(
-    bits: PlacedBits<'a>,
+fn lend_run<G: Gatherer>(
+    bits: PlacedBits<'_>,
+    frame: Frame,
+    room: u64,
     machine: &mut Machine,
     gatherer: &mut G,
-) -> Result<(PlacedBits<'a>, bool), AllocError> {
-    if !bits.has(MARGIN) || !gatherer.passes() {
-        return Ok((bits, false));
-    }
-    let room = machine.room();
-    let Some(frame) = machine.frames.last() else {
-        return Ok((bits, false));
-    };
-    let width = u32::from(frame.head.width);
+) -> Result<PassedRun, AllocError>
+    requires sound { IsMachine machine.old }
+    requires innermost { (others : List Frame) × (open_in machine.old ≡ frame ∷ others) }
+    ensures frames { machine.new.frames ≡ machine.old.frames }
+    ensures limits { machine.new.limits ≡ machine.old.limits }
+    ensures used { machine.new.used ≡ machine.old.used }
+    ensures keeps { KeepsBlock frame.marks machine.old.definitions machine.new.definitions }
+    ensures gathers { IfOk result (λ run. PassesRun G.gathered (in_force machine.old.definitions frame.marks)
+        (coming_of frame.head.width room bits.entry) gatherer.old run gatherer.new) }
+    ensures fails { OnErr result (G.fails gatherer.old None gatherer.new) }
+{
     let definitions = BlockDefinitions::of(&mut machine.definitions, frame.marks);
+    let width = u32::from(frame.head.width);
     let at = 0;
     let next = Coming {
         at,
@@ -43,13 +46,42 @@ fn gather_run<'a, G: Gatherer>(
         width,
         room,
     };
-    let run = gatherer.pass(next, definitions)?;
+    gatherer.pass(next, definitions)
+}
+
+/// Lets the gatherer walk over records of the innermost block. Returns the bits behind them, and whether no record comes there.
+#[inline(always)]
+fn gather_run<'a, G: Gatherer>(
+    bits: PlacedBits<'a>,
+    machine: &mut Machine,
+    gatherer: &mut G,
+) -> Result<(PlacedBits<'a>, bool), AllocError>
+    requires sound { IsMachine machine.old }
+    requires plain { InPlain machine.old }
+    requires aligned { vec_len machine.old.frames ≡ 0 → (placed bits).position % 8 ≡ 0 }
+    ensures gathers { IfOk result (λ to. GathersOn G.gathered machine.old.limits machine.old (placed bits.entry)
+        gatherer.old machine.new (placed to.0) gatherer.new) }
+    ensures stops { OnErr result (StopsOn G.gathered G.fails machine.old.limits machine.old (placed bits.entry)
+        gatherer.old gatherer.new) }
+{
+    if !bits.has(MARGIN) || !gatherer.passes() {
+        return Ok((bits, false));
+    }
+    let Some(frame) = machine.frames.last() else {
+        return Ok((bits, false));
+    };
+    let frame = *frame;
+    let room = machine.room();
+    let run = lend_run(bits, frame, room, machine, gatherer)?;
     machine.used += room - run.room;
     Ok((bits.at(run.after), run.is_over))
 }
 
 /// Whether a record comes next that the gatherer may walk over. In a BLOCKINFO block it may not, since each may set the described block.
-fn may_walk<G: Gatherer>(machine: &Machine, bits: PlacedBits<'_>, gatherer: &G) -> bool {
+fn may_walk<G: Gatherer>(machine: &Machine, bits: PlacedBits<'_>, gatherer: &G) -> bool
+    requires { IsMachine machine.now }
+    ensures { result ≡ true → InPlain machine.now }
+{
     if !bits.has(MARGIN) || !gatherer.passes() {
         return false;
     }
@@ -63,7 +95,7 @@ fn may_walk<G: Gatherer>(machine: &Machine, bits: PlacedBits<'_>, gatherer: &G) 
     if id <= 3 {
         return id == 3;
     }
-    match machine.definitions.in_force(frame.marks).head(id) {
+    match machine.definitions.in_force(frame.marks).head((id - 4) as usize) {
         Some(head) => head.is_even(),
         None => false,
     }
@@ -76,9 +108,18 @@ fn gather_odd<G: Gatherer>(
     machine: &mut Machine,
     gatherer: &mut G,
     values: &mut WithFirst<G::Values>,
-) -> Result<u64, AllocError> {
+) -> Result<u64, AllocError>
+    requires took { TookSome G.Values.took values.old.taker }
+    requires sound { IsMachine machine.old }
+    requires aligned { vec_len machine.old.frames ≡ 0 → (placed from).position % 8 ≡ 0 }
+    ensures took { TookSome G.Values.took values.new.taker }
+    ensures gathers { IfOk result (λ after. GathersUpTo G.gathered machine.old.limits machine.old (placed from.entry)
+        gatherer.old machine.new after gatherer.new) }
+    ensures stops { OnErr result (StopsOn G.gathered G.fails machine.old.limits machine.old (placed from.entry)
+        gatherer.old gatherer.new) }
+{
     let mut bits = from;
-    while let Some(head) = machine.record(bits, values) {
+    'records: while let Some(head) = machine.record(bits, values) {
         bits = bits.at(head.after);
         let taker = &mut values.taker;
         gatherer.record(head.abbrev, head.code, taker, head.first, head.after)?;
@@ -102,7 +143,16 @@ pub(crate) fn gather_records<'a, G: Gatherer>(
     machine: &mut Machine,
     gatherer: &mut G,
     values: &mut WithFirst<G::Values>,
-) -> Result<PlacedBits<'a>, AllocError> {
+) -> Result<PlacedBits<'a>, AllocError>
+    requires took { TookSome G.Values.took values.old.taker }
+    requires sound { IsMachine machine.old }
+    requires aligned { vec_len machine.old.frames ≡ 0 → (placed from).position % 8 ≡ 0 }
+    ensures took { TookSome G.Values.took values.new.taker }
+    ensures gathers { IfOk result (λ to. GathersOn G.gathered machine.old.limits machine.old (placed from.entry)
+        gatherer.old machine.new (placed to) gatherer.new) }
+    ensures stops { OnErr result (StopsOn G.gathered G.fails machine.old.limits machine.old (placed from.entry)
+        gatherer.old gatherer.new) }
+{
     let Some(frame) = machine.frames.last() else {
         return Ok(from);
     };
