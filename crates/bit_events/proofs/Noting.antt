@@ -1,6 +1,7 @@
 -- Records of the innermost block that were walked over are steps of the machine, one after another.
-use Rattle.std.proofs.Common.{◌≡◌, ℕ, ◌+◌, ◌-◌, ◌<◌, ◌≤◌, List, [], ◌∷◌, ◌++◌, length, length-append, map, None, Ok, Option, refl, sym, ap, subst, ◌∙◌, arith, append_assoc, vec_len}
+use Rattle.std.proofs.Common.{◌≡◌, ℕ, ◌+◌, ◌-◌, ◌<◌, ◌≤◌, List, [], ◌∷◌, ◌++◌, length, length-append, map, take, None, Ok, Option, refl, sym, ap, subst, ◌∙◌, arith, append_assoc, vec_len}
 use Rattle.std.proofs.lemmas.List.{append-nil}
+use mathlib.Core.Path.{fun_ext}
 use Rattle.bit_grammar.specs.declared.op.Op.{Op}
 use Rattle.bit_grammar.specs.Fields.{fixed}
 use Rattle.bit_grammar.specs.Terms as terms
@@ -10,18 +11,28 @@ use Rattle.bit_grammar.specs.Machine as machine
 use Rattle.bit_grammar.specs.Machine.{Event, notes, scope_of, step, step_of}
 use Rattle.bit_grammar.specs.Marks.{RecordMark}
 use Rattle.bit_fields.specs.Buffered.{BufferedBits, Reads, beyond, reader_at}
+use Rattle.bit_fields.specs.declared.placed.PlacedBits.{PlacedBits}
+use Rattle.bit_fields.specs.PlacedView.{placed}
 use Rattle.bit_fields.specs.Reader.{Took}
 use Rattle.bit_fields.proofs.BufferedReads.{reads_forward, reads_there, reads_took, took_reads}
+use Rattle.bit_abbrev.specs.declared.definitions.Definitions.{Definitions}
+use Rattle.bit_abbrev.specs.declared.table.MadeTable.{MadeTable}
+use Rattle.bit_abbrev.specs.BlockMarks.{blocks_in, blocks_of, in_force, own_of, shared_in, Stands}
+use Rattle.bit_abbrev.specs.BlockPlans.{KeepsBlock}
+use Rattle.bit_abbrev.specs.InfoTables.{table_in}
+use Rattle.bit_events.specs.declared.frame.Frame.{Frame}
 use Rattle.bit_events.specs.declared.machine.Machine.{Machine}
+use Rattle.bit_events.specs.FrameView.{frame_shown, frames_in, info_shown, inner_first, is_itself, marks_in}
+use Rattle.bit_events.specs.declared.passing.PassedRun.{PassedRun}
 use Rattle.bit_events.specs.Gathering.{Gathers, left_open}
-use Rattle.bit_events.specs.MachineView.{frames_shown, handed_shown, machine_shown, record_of, record_rule, IsMachine}
-use Rattle.bit_events.specs.Passing.{values_of, GathersRecords, ReadsRecord, ReadsRecords}
+use Rattle.bit_events.specs.MachineView.{frames_shown, handed_shown, is_info, machine_shown, marks_of, open_in, record_of, record_rule, InPlain, IsMachine, Unchanged}
+use Rattle.bit_events.specs.Passing.{coming_of, values_of, GathersRecords, PassesRun, ReadsRecord, ReadsRecords}
 use Rattle.bit_events.specs.Runs.{after_record, FindsHere, GathersOn}
-use Rattle.bit_events.proofs.Blocks.{on_both, on_none, on_step}
+use Rattle.bit_events.proofs.Blocks.{on_both, on_none, on_step, on_unchanged}
 use Rattle.bit_events.proofs.Framing.{none_described}
 use Rattle.bit_events.proofs.Framing as framing
 use Rattle.bit_events.proofs.InPlace.{later_read, some_bits}
-use Rattle.bit_events.proofs.Machines.{more_used}
+use Rattle.bit_events.proofs.Machines.{itself, more_used, not_is, seen, seen_of, sound_of, stands_with}
 use Rattle.bit_events.proofs.PassedOver.{records_spent}
 use Rattle.bit_events.proofs.Stepping.{in_then, after_record as record_follows, record_took, other_than, some_shown}
 
@@ -157,3 +168,46 @@ run_gathered gathered limits m f outer room a g records left b used h sound spli
             before.1,
           );
     }
+
+-- ---- plans
+
+same_seen : (d e : Definitions) (frames : List Frame) (used : ℕ) → blocks_of e (marks_in frames) ≡ blocks_of d (marks_in frames) → ((id : ℕ) → shared_in e id ≡ shared_in d id) → ((id : ℕ) → table_in e.made id ≡ table_in d.made id) → seen e frames used ≡ seen d frames used
+same_seen d e frames used blocks shared made =
+    let tables : table_in e.made ≡ table_in d.made = fun_ext made in
+    let later : shared_in e ≡ shared_in d = fun_ext shared in
+    ap (λ (t : terms.Table). record { frames = frames_in t (blocks_of e (marks_in frames)) frames; handed = record { table = shared_in e; used = used } }) tables
+    ∙ ap (λ (bs : List (List (List Op))). record { frames = frames_in (table_in d.made) bs frames; handed = record { table = shared_in e; used = used } }) blocks
+    ∙ ap (λ (t : terms.Table). record { frames = frames_in (table_in d.made) (blocks_of d (marks_in frames)) frames; handed = record { table = t; used = used } }) later
+
+-- a machine that made plans of its innermost block, and has so many values
+pub plans_kept : (m n : Machine) (f : Frame) (others : List Frame) (used : ℕ) → IsMachine m → open_in m ≡ f ∷ others → n.frames ≡ m.frames → n.limits ≡ m.limits → n.used ≡ used → KeepsBlock f.marks m.definitions n.definitions → Unchanged (record m { used = used }) n
+plans_kept m n f others used sound was frames limits used_is keeps =
+    let is : open_in n ≡ open_in m = ap (λ (v : _). inner_first v.items) frames in
+    let made : (id : ℕ) → table_in n.definitions.made id ≡ table_in m.definitions.made id = λ id. ap (λ (t : MadeTable). table_in t id) keeps.made in
+    record {
+      sound = sound_of n (open_in m) is (subst (λ (fs : List Frame). Stands n.definitions (marks_in fs)) (sym was) (keeps.stands (marks_in others) (stands_with m f others sound was))) sound.outer (λ none id. made id ∙ sound.none_made none id);
+      frames = frames;
+      limits = limits;
+      shown = seen_of n (open_in m) is ∙ same_seen m.definitions n.definitions (open_in m) n.used (keeps.blocks (marks_of m)) keeps.shared made ∙ ap (seen m.definitions (open_in m)) used_is;
+    }
+
+-- ---- a run of the innermost block
+
+-- the innermost block as it is shown
+abbrev pub first_shown : Machine → Frame → machine.Frame
+first_shown m f = frame_shown (table_in m.definitions.made) (in_force m.definitions f.marks) f
+
+innermost_shown : (m : Machine) (f : Frame) (others : List Frame) → open_in m ≡ f ∷ others → frames_shown m ≡ first_shown m f ∷ frames_in (table_in m.definitions.made) (blocks_in (take f.marks.heads (own_of m.definitions)) m.definitions.tables.items (marks_in others)) others
+innermost_shown m f others is = ap (λ (fs : List Frame). frames_in (table_in m.definitions.made) (blocks_of m.definitions (marks_in fs)) fs) is
+
+plain_shown : (m : Machine) (f : Frame) (others : List Frame) → open_in m ≡ f ∷ others → InPlain m → (first_shown m f).info ≡ None
+plain_shown m f others is plain = ap (info_shown (table_in m.definitions.made)) (itself f.describes (not_is (is_itself f.describes) (sym (ap is_info is) ∙ plain)))
+
+pub lent_run : {G : Type 0} (gathered : G → List Event → G → Type 0) (limits : Limits) (m n : Machine) (f : Frame) (others : List Frame) (room : ℕ) (bits : PlacedBits) (run : PassedRun) (g h : G) (b : BufferedBits) → IsMachine m → InPlain m → open_in m ≡ f ∷ others → n.frames ≡ m.frames → n.limits ≡ m.limits → n.used ≡ m.used + (room - run.room) → KeepsBlock f.marks m.definitions n.definitions → limits.values - m.used ≡ room
+    → PassesRun gathered (in_force m.definitions f.marks) (coming_of f.head.width room bits) g run h → b ≡ beyond (placed bits) (run.after - (placed bits).position) → GathersOn gathered limits m (placed bits) g n b h
+lent_run gathered limits m n f others room bits run g h b sound plain is frames same_limits used keeps most ran end =
+    let a = placed bits in
+    let outer = frames_in (table_in m.definitions.made) (blocks_in (take f.marks.heads (own_of m.definitions)) m.definitions.tables.items (marks_in others)) others in
+    let on = run_gathered gathered limits m (first_shown m f) outer room a g ran.0 run.room (beyond a (run.after - a.position)) (m.used + (room - run.room)) h sound (innermost_shown m f others is) (plain_shown m f others is plain) most refl ran.1.reads ran.2 in
+    subst (λ (x : BufferedBits). GathersOn gathered limits m a g n x h) (sym end)
+    (on_unchanged gathered limits m a g (record m { used = m.used + (room - run.room) }) n (beyond a (run.after - a.position)) h on (plans_kept m n f others (m.used + (room - run.room)) sound is frames same_limits used keeps))

@@ -9,6 +9,8 @@ use Rattle.bit_fields.specs.Buffered.{BufferedBits, Reads, beyond}
 use Rattle.bit_fields.specs.declared.placed.PlacedBits.{PlacedBits}
 use Rattle.bit_fields.specs.PlacedView.{placed}
 use Rattle.bit_abbrev.specs.declared.coming.Coming.{Coming}
+use Rattle.bit_abbrev.specs.declared.definitions.BlockDefinitions.{BlockDefinitions}
+use Rattle.bit_abbrev.specs.BlockPlans.{KeepsBlock}
 use Rattle.bit_abbrev.specs.declared.coming.Walked.{Walked}
 use Rattle.bit_events.specs.declared.passing.CountedRecord.{CountedRecord}
 use Rattle.bit_events.specs.declared.passing.PassedRun.{PassedRun}
@@ -158,6 +160,12 @@ pub record CountsRun {R : Type 0} (counted : R → List RecordMark → R → Typ
   pub records : List RecordMark
   pub passes : PassesRecords next.width definitions next.room (placed next.bits) records run
   pub counts : CountsAll counted old records new
+
+-- The same definitions are lent, of which plans may have been made.
+pub record KeptBlock (old new : BlockDefinitions) : Type 0 where
+  pub same_reference : new.definitions.ghost_name ≡ old.definitions.ghost_name
+  pub marks : new.marks ≡ old.marks
+  pub keeps : KeepsBlock old.marks old.definitions.now new.definitions.now
 
 -- ---- gathering them
 

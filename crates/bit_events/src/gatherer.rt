@@ -1,6 +1,7 @@
 //! What the events of a stream are given to.
 
 ghost use Rattle.std.specs.Prelude.{◌≡◌, ◌≤◌, ℕ, List, [], Some, None, OnOk, OnErr, IfOk};
+ghost use Rattle.bit_grammar.specs.Definition.{Definable};
 ghost use Rattle.bit_grammar.specs.Machine.{enters, defines, notes, leaves};
 ghost use Rattle.bit_abbrev.specs.BlockPlans.{all_of_block, KeepsBlock, StandsFor};
 ghost use Rattle.bit_abbrev.specs.HeldPlaces.{ops_of};
@@ -40,6 +41,7 @@ pub trait Gatherer {
 
     /// Takes a definition in the innermost block: its operands, its first bit and the bit after it.
     fn define(&mut self, ops: HeldOps<'_>, first: u64, after: u64) -> Result<(), AllocError>
+        requires { Definable (ops_of ops.places.now) }
         ensures gathers { OnOk result (Gathers gathered self.old
             (defines (record { ops = ops_of ops.entry.places.now; first = first; after = after })) self.new) }
         ensures fails { OnErr result (fails self.old
@@ -87,13 +89,15 @@ pub trait Gatherer {
     fn pass(
         &mut self,
         next: Coming<'_>,
-        _definitions: BlockDefinitions<'_>,
+        _definitions: &mut BlockDefinitions<'_>,
     ) -> Result<PassedRun, AllocError>
-        requires stands { StandsFor _definitions }
+        requires stands { StandsFor _definitions.old }
         requires width { next.width ≤ 32 }
-        ensures keeps { KeepsBlock _definitions.entry.marks _definitions.entry.definitions.now
-            _definitions.exit.0.now }
-        ensures gathers { IfOk result (λ run. PassesRun gathered (all_of_block _definitions.entry)
+        ensures same_reference { _definitions.new.definitions.ghost_name ≡ _definitions.old.definitions.ghost_name }
+        ensures marks { _definitions.new.marks ≡ _definitions.old.marks }
+        ensures keeps { KeepsBlock _definitions.old.marks _definitions.old.definitions.now
+            _definitions.new.definitions.now }
+        ensures gathers { IfOk result (λ run. PassesRun gathered (all_of_block _definitions.old)
             next.entry self.old run self.new) }
         ensures fails { OnErr result (fails self.old None self.new) }
     {

@@ -6,8 +6,8 @@ ghost use Rattle.bit_grammar.specs.Marks.{RecordMark};
 ghost use Rattle.bit_grammar.specs.Fields.{fixed};
 ghost use Rattle.bit_fields.specs.Buffered.{Reads, beyond};
 ghost use Rattle.bit_fields.specs.PlacedView.{placed};
-ghost use Rattle.bit_abbrev.specs.BlockPlans.{all_of_block, KeepsBlock, StandsFor};
-ghost use Rattle.bit_events.specs.Passing.{CountsOne, CountsRun, HandsOn, IsMarkOf, PassesRecords, StepsOn, WalksRun};
+ghost use Rattle.bit_abbrev.specs.BlockPlans.{all_of_block, StandsFor};
+ghost use Rattle.bit_events.specs.Passing.{CountsOne, CountsRun, HandsOn, IsMarkOf, KeptBlock, PassesRecords, StepsOn, WalksRun};
 
 use bit_abbrev::{
     BlockDefinitions, Coming, Counting, FEW, Listing, MARGIN, Planned, Walked, Walker,
@@ -270,20 +270,22 @@ fn pass_by_operands<R: RunCounter>(
     walk_run(by, &mut [0; 1], next, counter)
 }
 
-/// Makes the plan for the record that comes next, and returns whether one was made that passes over records.
+/// Makes the plan for the record that comes next, if one does and its bits are there. Returns whether one was made that passes over
+/// records.
 #[inline(always)]
+#[tactic(auto, using(crate::proofs::BlockKept::kept_none))]
 fn plan_next(
     next: Coming<'_>,
+    is_over: bool,
     definitions: &mut BlockDefinitions<'_>,
 ) -> Result<bool, AllocError>
     requires stands { StandsFor definitions.old }
     requires width { next.width ≤ 32 }
-    requires there { 64 ≤ length (placed next.bits).bits }
-    ensures same_reference { definitions.new.definitions.ghost_name ≡ definitions.old.definitions.ghost_name }
-    ensures marks { definitions.new.marks ≡ definitions.old.marks }
-    ensures keeps { KeepsBlock definitions.old.marks definitions.old.definitions.now
-        definitions.new.definitions.now }
+    ensures { KeptBlock definitions.old definitions.new }
 {
+    if is_over || !next.bits.has(MARGIN) {
+        return Ok(false);
+    }
     let id = next.id();
     if id <= 3 {
         return Ok(false);
@@ -301,10 +303,7 @@ fn pass_planned<R: RunCounter>(
     requires stands { StandsFor definitions.old }
     requires width { first.width ≤ 32 }
     requires lists { R.lists ≡ false }
-    ensures same_reference { definitions.new.definitions.ghost_name ≡ definitions.old.definitions.ghost_name }
-    ensures marks { definitions.new.marks ≡ definitions.old.marks }
-    ensures keeps { KeepsBlock definitions.old.marks definitions.old.definitions.now
-        definitions.new.definitions.now }
+    ensures kept { KeptBlock definitions.old definitions.new }
     ensures counts { IfOk result (λ run. CountsRun R.counted (all_of_block definitions.old) first.entry
         counter.old run counter.new) }
 {
@@ -313,10 +312,7 @@ fn pass_planned<R: RunCounter>(
         let run = pass_by_plans(next, definitions, counter)?;
         next.bits = next.bits.at(run.after);
         next.room = run.room;
-        if run.is_over || !next.bits.has(MARGIN) {
-            return Ok(run);
-        }
-        if !plan_next(next, definitions)? {
+        if !plan_next(next, run.is_over, definitions)? {
             return Ok(run);
         }
     }
@@ -327,40 +323,36 @@ fn pass_planned<R: RunCounter>(
 #[inline(always)]
 pub fn pass_records<R: RunCounter>(
     next: Coming<'_>,
-    definitions: BlockDefinitions<'_>,
+    definitions: &mut BlockDefinitions<'_>,
     counter: &mut R,
 ) -> Result<PassedRun, AllocError>
-    requires stands { StandsFor definitions }
+    requires stands { StandsFor definitions.old }
     requires width { next.width ≤ 32 }
     requires lists { R.lists ≡ false }
-    ensures keeps { KeepsBlock definitions.entry.marks definitions.entry.definitions.now
-        definitions.exit.0.now }
-    ensures counts { IfOk result (λ run. CountsRun R.counted (all_of_block definitions.entry) next.entry
+    ensures kept { KeptBlock definitions.old definitions.new }
+    ensures counts { IfOk result (λ run. CountsRun R.counted (all_of_block definitions.old) next.entry
         counter.old run counter.new) }
 {
-    let mut definitions = definitions;
-    let run = pass_planned(next, &mut definitions, counter)?;
+    let run = pass_planned(next, definitions, counter)?;
     if run.is_over {
         return Ok(run);
     }
     let mut rest = next;
     rest.bits = next.bits.at(run.after);
     rest.room = run.room;
-    pass_by_operands(rest, &definitions, counter)
+    pass_by_operands(rest, definitions, counter)
 }
 
 /// Reads records of few values.
 #[inline(always)]
 pub fn list_records<R: RunCounter>(
     next: Coming<'_>,
-    definitions: BlockDefinitions<'_>,
+    definitions: &BlockDefinitions<'_>,
     counter: &mut R,
 ) -> Result<PassedRun, AllocError>
-    requires stands { StandsFor definitions }
+    requires stands { StandsFor definitions.now }
     requires width { next.width ≤ 32 }
-    ensures keeps { KeepsBlock definitions.entry.marks definitions.entry.definitions.now
-        definitions.exit.0.now }
-    ensures counts { IfOk result (λ run. CountsRun R.counted (all_of_block definitions.entry) next.entry
+    ensures { IfOk result (λ run. CountsRun R.counted (all_of_block definitions.now) next.entry
         counter.old run counter.new) }
 {
     let by = Listing {

@@ -1,52 +1,39 @@
 //! Records that lie whole in buffered bits, given to a gatherer.
 
-ghost use Rattle.std.specs.Prelude.{◌≡◌, ◌%◌, ◌≤◌, ◌∷◌, true, List, IfOk, OnErr, vec_len};
+ghost use Rattle.std.specs.Prelude.{◌≡◌, ◌%◌, ◌≤◌, ◌∷◌, true, List, None, IfOk, OnErr, vec_len};
 ghost use Rattle.bit_fields.specs.PlacedView.{placed};
-ghost use Rattle.bit_abbrev.specs.BlockMarks.{in_force};
+ghost use Rattle.bit_abbrev.specs.declared.definitions.Marks.{Marks};
+ghost use Rattle.bit_abbrev.specs.BlockMarks.{in_force, Stands};
 ghost use Rattle.bit_abbrev.specs.BlockPlans.{KeepsBlock};
-ghost use Rattle.bit_events.specs.declared.frame.Frame.{Frame};
-ghost use Rattle.bit_events.specs.MachineView.{InPlain, IsMachine, TookSome, open_in};
-ghost use Rattle.bit_events.specs.Passing.{PassesRun, coming_of};
+ghost use Rattle.bit_events.specs.MachineView.{InPlain, IsMachine, TookSome};
+ghost use Rattle.bit_events.specs.Passing.{PassesRun};
 ghost use Rattle.bit_events.specs.Runs.{GathersOn, GathersUpTo, StopsOn};
 
-use crate::frame::Frame;
 use crate::gatherer::Gatherer;
 use crate::machine::Machine;
 use crate::passing::PassedRun;
 use crate::with_first::WithFirst;
-use bit_abbrev::{BlockDefinitions, Coming, MARGIN};
+use bit_abbrev::{BlockDefinitions, Coming, Definitions, MARGIN, Marks};
 use bit_fields::PlacedBits;
 use std::alloc::AllocError;
 
-/// Lends the gatherer the definitions of the innermost block, which has this frame, to walk over records of at most so many values.
+/// Lends the gatherer the definitions of the innermost block, which has these marks, to walk over records.
 #[inline(always)]
 fn lend_run<G: Gatherer>(
-    bits: PlacedBits<'_>,
-    frame: Frame,
-    room: u64,
-    machine: &mut Machine,
+    next: Coming<'_>,
+    marks: Marks,
+    definitions: &mut Definitions,
     gatherer: &mut G,
 ) -> Result<PassedRun, AllocError>
-    requires sound { IsMachine machine.old }
-    requires innermost { (others : List Frame) × (open_in machine.old ≡ frame ∷ others) }
-    ensures frames { machine.new.frames ≡ machine.old.frames }
-    ensures limits { machine.new.limits ≡ machine.old.limits }
-    ensures used { machine.new.used ≡ machine.old.used }
-    ensures keeps { KeepsBlock frame.marks machine.old.definitions machine.new.definitions }
-    ensures gathers { IfOk result (λ run. PassesRun G.gathered (in_force machine.old.definitions frame.marks)
-        (coming_of frame.head.width room bits.entry) gatherer.old run gatherer.new) }
+    requires stands { (outer : List Marks) × Stands definitions.old (marks ∷ outer) }
+    requires width { next.width ≤ 32 }
+    ensures keeps { KeepsBlock marks definitions.old definitions.new }
+    ensures gathers { IfOk result (λ run. PassesRun G.gathered (in_force definitions.old marks) next.entry
+        gatherer.old run gatherer.new) }
     ensures fails { OnErr result (G.fails gatherer.old None gatherer.new) }
 {
-    let definitions = BlockDefinitions::of(&mut machine.definitions, frame.marks);
-    let width = u32::from(frame.head.width);
-    let at = 0;
-    let next = Coming {
-        at,
-        bits,
-        width,
-        room,
-    };
-    gatherer.pass(next, definitions)
+    let mut block = BlockDefinitions::of(definitions, marks);
+    gatherer.pass(next, &mut block)
 }
 
 /// Lets the gatherer walk over records of the innermost block. Returns the bits behind them, and whether no record comes there.
@@ -72,7 +59,15 @@ fn gather_run<'a, G: Gatherer>(
     };
     let frame = *frame;
     let room = machine.room();
-    let run = lend_run(bits, frame, room, machine, gatherer)?;
+    let width = u32::from(frame.head.width);
+    let at = 0;
+    let next = Coming {
+        at,
+        bits,
+        width,
+        room,
+    };
+    let run = lend_run(next, frame.marks, &mut machine.definitions, gatherer)?;
     machine.used += room - run.room;
     Ok((bits.at(run.after), run.is_over))
 }
