@@ -10,15 +10,14 @@ pub mod Faults
 pub mod WholeInputs
 pub mod SomeBytes
 pub mod Folds
-pub mod Runs
 pub mod Blocks
-pub mod Counting
 pub mod PlacedHeads
 pub mod InSlices
 pub mod Kept
 pub mod Standings
 mod Named
 pub mod Rest
+pub mod InPlace
 pub mod PassedOver
-pub mod PassedEvents
-pub mod FewRecords
+pub mod BlockKept
+pub mod Noting

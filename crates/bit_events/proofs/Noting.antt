@@ -186,7 +186,7 @@ plans_kept m n f others used sound was frames limits used_is keeps =
     let made : (id : ℕ) → table_in n.definitions.made id ≡ table_in m.definitions.made id = λ id. ap (λ (t : MadeTable). table_in t id) keeps.made in
     record {
       sound = sound_of n (open_in m) is (subst (λ (fs : List Frame). Stands n.definitions (marks_in fs)) (sym was) (keeps.stands (marks_in others) (stands_with m f others sound was))) sound.outer (λ none id. made id ∙ sound.none_made none id);
-      frames = frames;
+      frames = ap vec_len frames;
       limits = limits;
       shown = seen_of n (open_in m) is ∙ same_seen m.definitions n.definitions (open_in m) n.used (keeps.blocks (marks_of m)) keeps.shared made ∙ ap (seen m.definitions (open_in m)) used_is;
     }

@@ -1,7 +1,7 @@
 //! What the events of a stream are given to.
 
 ghost use Rattle.std.specs.Prelude.{◌≡◌, ◌≤◌, ℕ, List, [], Some, None, OnOk, OnErr, IfOk};
-ghost use Rattle.bit_grammar.specs.Definition.{Definable};
+ghost use Rattle.bit_grammar.specs.FormatDefinition.{Definable};
 ghost use Rattle.bit_grammar.specs.Machine.{enters, defines, notes, leaves};
 ghost use Rattle.bit_abbrev.specs.BlockPlans.{all_of_block, KeepsBlock, StandsFor};
 ghost use Rattle.bit_abbrev.specs.HeldPlaces.{ops_of};

@@ -77,15 +77,12 @@ fn may_walk<G: Gatherer>(machine: &Machine, bits: PlacedBits<'_>, gatherer: &G) 
     requires { IsMachine machine.now }
     ensures { result ≡ true → InPlain machine.now }
 {
-    if !bits.has(MARGIN) || !gatherer.passes() {
+    if !bits.has(MARGIN) || !gatherer.passes() || !machine.is_plain() {
         return false;
     }
     let Some(frame) = machine.frames.last() else {
         return false;
     };
-    if !frame.is_plain() {
-        return false;
-    }
     let id = bits.fixed(u32::from(frame.head.width));
     if id <= 3 {
         return id == 3;

@@ -1,0 +1,22 @@
+use Rattle.std.proofs.Common.{◌≡◌, ◌+◌, ◌-◌, length, refl, sym, arith, ltb-true}
+use Rattle.bit_fields.specs.PlacedView.{placed}
+use Rattle.bit_events.proofs.Blocks.{on_none}
+use Rattle.bit_events.proofs.Machines.{stands_with}
+use Rattle.bit_events.proofs.Noting.{lent_run}
+use Rattle.bit_events.proofs.Stepping.{open_last}
+use Rattle.bit_events.proofs.running.gather_run.Goals as goal
+
+pub lend_run-requires-clause-stands : goal.lend_run-requires-clause-stands
+lend_run-requires-clause-stands g c =
+    let m = c.args.machine.now in
+    let items = rw c.deref.ensures.value at c.in-Some.ensures.item in
+    let was = open_last m c.in-Some.frame.now (omega (arith, ltb-true 0 (length m.frames.items) (sym items.0))) items.1 in
+    (_, stands_with m c.in-Some.frame.now _ c.requires.sound was)
+
+pub returns-clause-gathers : goal.returns-clause-gathers
+returns-clause-gathers g c =
+    let m = c.args.machine.now in
+    let items = rw c.deref.ensures.value at c.in-Some.ensures.item in
+    let was = open_last m c.in-Some.frame.now (omega (arith, ltb-true 0 (length m.frames.items) (sym items.0))) items.1 in
+    lent_run g.G.Gatherer.gathered m.limits m (record m { definitions = c.lend_run.new.definitions; used = m.used + (c.room.result - c.in_ok-run.field-0.room) }) c.in-Some.frame.now _ c.room.result c.args.bits c.in_ok-run.field-0 c.args.gatherer.now c.lend_run.new.gatherer (placed c.at.result)
+    c.requires.sound c.requires.plain was refl refl refl c.lend_run.ensures.keeps (sym c.room.ensures) c.in_ok-run.ensures.gathers c.at.ensures
