@@ -1,5 +1,5 @@
 -- Records of the innermost block that were walked over are steps of the machine, one after another.
-use Rattle.std.proofs.Common.{◌≡◌, ℕ, ◌+◌, ◌-◌, ◌<◌, ◌≤◌, List, [], ◌∷◌, ◌++◌, length, length-append, map, take, None, Ok, Option, refl, sym, ap, subst, ◌∙◌, arith, append_assoc, vec_len}
+use Rattle.std.proofs.Common.{◌≡◌, ℕ, ◌+◌, ◌-◌, ◌<◌, ◌≤◌, List, [], ◌∷◌, ◌++◌, length, length-append, map, take, None, Some, Ok, inr, Option, refl, sym, ap, subst, ◌∙◌, arith, append_assoc, vec_len}
 use Rattle.std.proofs.lemmas.List.{append-nil}
 use mathlib.Core.Path.{fun_ext}
 use Rattle.bit_grammar.specs.declared.op.Op.{Op}
@@ -21,14 +21,16 @@ use Rattle.bit_abbrev.specs.BlockMarks.{blocks_in, blocks_of, in_force, own_of, 
 use Rattle.bit_abbrev.specs.BlockPlans.{KeepsBlock}
 use Rattle.bit_abbrev.specs.InfoTables.{table_in}
 use Rattle.bit_events.specs.declared.frame.Frame.{Frame}
+use Rattle.bit_events.specs.declared.event.RecordHead.{RecordHead}
 use Rattle.bit_events.specs.declared.machine.Machine.{Machine}
 use Rattle.bit_events.specs.FrameView.{frame_shown, frames_in, info_shown, inner_first, is_itself, marks_in}
 use Rattle.bit_events.specs.declared.passing.PassedRun.{PassedRun}
 use Rattle.bit_events.specs.Gathering.{Gathers, left_open}
 use Rattle.bit_events.specs.MachineView.{frames_shown, handed_shown, is_info, machine_shown, marks_of, open_in, record_of, record_rule, InPlain, IsMachine, Unchanged}
 use Rattle.bit_events.specs.Passing.{coming_of, values_of, GathersRecords, PassesRun, ReadsRecord, ReadsRecords}
-use Rattle.bit_events.specs.Runs.{after_record, FindsHere, GathersOn}
-use Rattle.bit_events.proofs.Blocks.{on_both, on_none, on_step, on_unchanged}
+use Rattle.bit_events.specs.Runs.{after_record, FindsHere, GathersOn, NotesHere, StopsOn}
+use Rattle.bit_events.proofs.Blocks.{on_both, on_none, on_step, on_unchanged, stop_step}
+use Rattle.bit_events.proofs.Folds.{first_bits}
 use Rattle.bit_events.proofs.Framing.{none_described}
 use Rattle.bit_events.proofs.Framing as framing
 use Rattle.bit_events.proofs.InPlace.{later_read, some_bits}
@@ -211,3 +213,26 @@ lent_run gathered limits m n f others room bits run g h b sound plain is frames 
     let on = run_gathered gathered limits m (first_shown m f) outer room a g ran.0 run.room (beyond a (run.after - a.position)) (m.used + (room - run.room)) h sound (innermost_shown m f others is) (plain_shown m f others is plain) most refl ran.1.reads ran.2 in
     subst (λ (x : BufferedBits). GathersOn gathered limits m a g n x h) (sym end)
     (on_unchanged gathered limits m a g (record m { used = m.used + (room - run.room) }) n (beyond a (run.after - a.position)) h on (plans_kept m n f others (m.used + (room - run.room)) sound is frames same_limits used keeps))
+
+-- ---- where it stopped, and single records
+
+-- a call failed at bits
+pub stop_bits : {G : Type 0} (gathered : G → List Event → G → Type 0) (fails : G → Option Event → G → Type 0) (limits : Limits) (m : Machine) (a : BufferedBits) (g h : G) → fails g None h → StopsOn gathered fails limits m a g h
+stop_bits gathered fails limits m a g h failed = λ r sees. first_bits gathered fails limits m r g h failed
+
+-- a record that was found in place
+pub note_at : (limits : Limits) (m : Machine) (a : BufferedBits) (head : RecordHead) (list : List ℕ) (n : Machine) (note : NotesHere limits m a head list n) → (a.position ≤ head.after) × (head.after ≤ a.position + length a.bits) × (note.0 ≡ beyond a (head.after - a.position))
+note_at limits m a head list n note =
+    let later = later_read (step limits (machine_shown m)) a (record_of head.«abbrev» list head.first (head.code, head.after), machine_shown n) note.0 note.2.reads in
+    (omega (arith, later.forward, note.1), omega (arith, later.there, note.1), later.is ∙ ap (λ (p : ℕ). beyond a (p - a.position)) note.1)
+
+pub note_on : {G : Type 0} (gathered : G → List Event → G → Type 0) (limits : Limits) (m : Machine) (a : BufferedBits) (g : G) (head : RecordHead) (list : List ℕ) (n : Machine) (h : G) (b : BufferedBits) (note : NotesHere limits m a head list n) → a.position < head.after → b ≡ beyond a (head.after - a.position) → Gathers gathered g (record_of head.«abbrev» list head.first (head.code, head.after)) h → GathersOn gathered limits m a g n b h
+note_on gathered limits m a g head list n h b note moves end gathers =
+    let event : Event = record_of head.«abbrev» list head.first (head.code, head.after) in
+    subst (λ (x : BufferedBits). GathersOn gathered limits m a g n x h) ((note_at limits m a head list n note).2 ∙ sym end)
+    (on_step gathered limits m a g event n note.0 h note.2 (omega (arith, moves, note.1)) gathers)
+
+pub note_stops : {G : Type 0} (gathered : G → List Event → G → Type 0) (fails : G → Option Event → G → Type 0) (limits : Limits) (m : Machine) (a : BufferedBits) (g : G) (head : RecordHead) (list : List ℕ) (n : Machine) (h : G) (note : NotesHere limits m a head list n) → a.position < head.after → fails g (Some (record_of head.«abbrev» list head.first (head.code, head.after))) h → StopsOn gathered fails limits m a g h
+note_stops gathered fails limits m a g head list n h note moves failed =
+    let event : Event = record_of head.«abbrev» list head.first (head.code, head.after) in
+    stop_step gathered fails limits m a g event n note.0 h note.2 (omega (arith, moves, note.1)) (inr failed)

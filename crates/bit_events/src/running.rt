@@ -1,11 +1,11 @@
 //! Records that lie whole in buffered bits, given to a gatherer.
 
-ghost use Rattle.std.specs.Prelude.{◌≡◌, ◌%◌, ◌≤◌, ◌∷◌, true, List, None, IfOk, OnErr, vec_len};
+ghost use Rattle.std.specs.Prelude.{◌≡◌, ◌%◌, ◌<◌, ◌≤◌, ◌∷◌, true, List, None, IfOk, IfSome, IfNone, OnErr, length, vec_len};
 ghost use Rattle.bit_fields.specs.PlacedView.{placed};
 ghost use Rattle.bit_abbrev.specs.declared.definitions.Marks.{Marks};
 ghost use Rattle.bit_abbrev.specs.BlockMarks.{in_force, Stands};
 ghost use Rattle.bit_abbrev.specs.BlockPlans.{KeepsBlock};
-ghost use Rattle.bit_events.specs.MachineView.{InPlain, IsMachine, TookSome};
+ghost use Rattle.bit_events.specs.MachineView.{InPlain, IsMachine, TookSome, Unchanged};
 ghost use Rattle.bit_events.specs.Passing.{PassesRun};
 ghost use Rattle.bit_events.specs.Runs.{GathersOn, GathersUpTo, StopsOn};
 
@@ -93,6 +93,54 @@ fn may_walk<G: Gatherer>(machine: &Machine, bits: PlacedBits<'_>, gatherer: &G) 
     }
 }
 
+/// Lets the gatherer walk over records, if it may. Returns the bits behind them, and whether no record comes there.
+#[inline(always)]
+fn walk_on<'a, G: Gatherer>(
+    bits: PlacedBits<'a>,
+    machine: &mut Machine,
+    gatherer: &mut G,
+) -> Result<(PlacedBits<'a>, bool), AllocError>
+    requires sound { IsMachine machine.old }
+    requires aligned { vec_len machine.old.frames ≡ 0 → (placed bits).position % 8 ≡ 0 }
+    ensures gathers { IfOk result (λ to. GathersOn G.gathered machine.old.limits machine.old (placed bits.entry)
+        gatherer.old machine.new (placed to.0) gatherer.new) }
+    ensures stops { OnErr result (StopsOn G.gathered G.fails machine.old.limits machine.old (placed bits.entry)
+        gatherer.old gatherer.new) }
+{
+    if !may_walk(machine, bits, gatherer) {
+        return Ok((bits, false));
+    }
+    gather_run(bits, machine, gatherer)
+}
+
+/// Gathers one record, and returns the bits behind it. `None` if none is there that is taken in place.
+#[inline(always)]
+fn gather_one<'a, G: Gatherer>(
+    bits: PlacedBits<'a>,
+    machine: &mut Machine,
+    gatherer: &mut G,
+    values: &mut WithFirst<G::Values>,
+) -> Result<Option<PlacedBits<'a>>, AllocError>
+    requires took { TookSome G.Values.took values.old.taker }
+    requires sound { IsMachine machine.old }
+    ensures took { TookSome G.Values.took values.new.taker }
+    ensures some { IfOk result (λ one. IfSome one (λ to. GathersOn G.gathered machine.old.limits machine.old
+        (placed bits.entry) gatherer.old machine.new (placed to) gatherer.new)) }
+    ensures moves { IfOk result (λ one. IfSome one (λ to.
+        length (placed to).bits < length (placed bits.entry).bits)) }
+    ensures none { IfOk result (λ one. IfNone one (Unchanged machine.old machine.new
+        × (gatherer.new ≡ gatherer.old))) }
+    ensures stops { OnErr result (StopsOn G.gathered G.fails machine.old.limits machine.old (placed bits.entry)
+        gatherer.old gatherer.new) }
+{
+    let Some(head) = machine.record(bits, values) else {
+        return Ok(None);
+    };
+    let taker = &mut values.taker;
+    gatherer.record(head.abbrev, head.code, taker, head.first, head.after)?;
+    Ok(Some(bits.at(head.after)))
+}
+
 /// Gathers records, of which the first is one that the gatherer does not walk over, and returns the bit after them.
 #[inline(never)]
 fn gather_odd<G: Gatherer>(
@@ -111,16 +159,11 @@ fn gather_odd<G: Gatherer>(
         gatherer.old gatherer.new) }
 {
     let mut bits = from;
-    'records: while let Some(head) = machine.record(bits, values) {
-        bits = bits.at(head.after);
-        let taker = &mut values.taker;
-        gatherer.record(head.abbrev, head.code, taker, head.first, head.after)?;
-        if may_walk(machine, bits, gatherer) {
-            let (after, is_over) = gather_run(bits, machine, gatherer)?;
-            bits = after;
-            if is_over {
-                break;
-            }
+    'records: while let Some(behind) = gather_one(bits, machine, gatherer, values)? {
+        let (after, is_over) = walk_on(behind, machine, gatherer)?;
+        bits = after;
+        if is_over {
+            break;
         }
     }
     Ok(bits.position())
