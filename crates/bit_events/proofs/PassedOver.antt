@@ -12,8 +12,9 @@ use Rattle.bit_fields.specs.PlacedView.{placed}
 use Rattle.bit_abbrev.specs.declared.coming.Coming.{Coming}
 use Rattle.bit_abbrev.specs.declared.coming.Walked.{Walked}
 use Rattle.bit_abbrev.specs.Walking.{KeepsRecord, Walks}
+use Rattle.bit_events.specs.declared.passing.CountedRecord.{CountedRecord}
 use Rattle.bit_events.specs.declared.passing.PassedRun.{PassedRun}
-use Rattle.bit_events.specs.Passing.{values_of, CountsAll, CountsOne, CountsRun, GathersRecords, HandsOn, KeepsAll, PassesRecords, PassesRun, ReadsRecord, ReadsRecords, StepsOn, WalksOn, WalksOver, WalksRun}
+use Rattle.bit_events.specs.Passing.{mark_of, values_of, CountsAll, CountsOne, CountsRun, GathersRecords, HandsOn, IsMarkOf, KeepsAll, PassesRecords, PassesRun, ReadsRecord, ReadsRecords, StepsOn, WalksOn, WalksOver, WalksRun}
 use Rattle.bit_events.proofs.InPlace.{beyond_both, later_both, later_none, later_read, some_bits, Later}
 
 -- ---- records in bits
@@ -58,6 +59,13 @@ passes_records width definitions room a records left b run so room_is after_is =
     }
 
 -- ---- counting
+
+same_mark : (id code first after : ℕ) (values : List ℕ) (new_id new_code new_first new_after : ℕ) → id ≡ new_id → code ≡ new_code → first ≡ new_first → after ≡ new_after → ◌≡◌ {A = RecordMark} (record { abbreviation = id; code = code; values = values; first = first; after = after }) (record { abbreviation = new_id; code = new_code; values = values; first = new_first; after = new_after })
+same_mark id code first after values new_id new_code new_first new_after a b c d = rw (a, b, c, d) refl
+
+-- a counter that goes by codes is told all of a record but its values
+pub mark_is : (lists : Bool) (passed : CountedRecord) (shown : List ℕ) (mark : RecordMark) → IsMarkOf true lists passed shown mark → mark ≡ mark_of passed mark.values
+mark_is lists passed shown mark is = same_mark mark.abbreviation mark.code mark.first mark.after mark.values passed.id passed.code passed.first passed.after is.abbreviation (is.code refl) is.first is.after
 
 pub counts_none : {R : Type 0} (counted : R → List RecordMark → R → Type 0) (old : R) → CountsAll counted old [] old
 counts_none counted old = λ first done was. subst (λ (records : List RecordMark). counted first records old) (sym (append-nil done)) was

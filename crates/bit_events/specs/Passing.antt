@@ -68,6 +68,16 @@ pub record IsMarkOf (asks lists : Bool) (passed : CountedRecord) (shown : List �
   pub code : asks ≡ true → mark.code ≡ passed.code
   pub values : lists ≡ true → mark.values ≡ shown
 
+-- the record that was counted, with these values
+abbrev pub mark_of : CountedRecord → List ℕ → RecordMark
+mark_of passed values = record {
+  abbreviation = passed.id;
+  code = passed.code;
+  values = values;
+  first = passed.first;
+  after = passed.after;
+}
+
 -- after counting some records, one more was counted
 abbrev pub CountsOne : {R : Type 0} → (R → List RecordMark → R → Type 0) → R → RecordMark → R → Type 0
 CountsOne {R} counted old mark new = (first : R) (done : List RecordMark) → counted first done old

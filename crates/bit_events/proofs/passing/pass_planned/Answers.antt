@@ -15,11 +15,11 @@ pass_by_plans-requires-clause-stands g c = block_stands c.args.definitions.now c
 pub pass_by_plans-requires-clause-width : goal.pass_by_plans-requires-clause-width
 pass_by_plans-requires-clause-width g c = omega (arith, c.requires.width, c.runs.invariant.counts.width)
 
-pub at-requires-clause-from : goal.at-requires-clause-from
-at-requires-clause-from g c = c.in_ok-run.ensures.passes.forward
+pub at-next-requires-clause-from : goal.at-next-requires-clause-from
+at-next-requires-clause-from g c = c.in_ok-run.ensures.passes.forward
 
-pub at-requires-clause-to : goal.at-requires-clause-to
-at-requires-clause-to g c = c.in_ok-run.ensures.passes.there
+pub at-next-requires-clause-to : goal.at-next-requires-clause-to
+at-next-requires-clause-to g c = c.in_ok-run.ensures.passes.there
 
 pub plan_next-requires-clause-stands : goal.plan_next-requires-clause-stands
 plan_next-requires-clause-stands g c = block_stands c.args.definitions.now c.runs.definitions c.runs.invariant.kept c.requires.stands
@@ -40,18 +40,18 @@ pub returns-then-not-branch-clause-counts : goal.returns-then-not-branch-clause-
 returns-then-not-branch-clause-counts g c =
     let T = g.R.RunCounter.counted in
     let l = c.runs in
-    let ran : CountsRun T (all_of_block c.args.definitions.now) l.next l.counter c.in_ok-run.field-0 c.pass_by_plans.new.counter = subst (λ (d : List (List Op)). CountsRun T d l.next l.counter c.in_ok-run.field-0 c.pass_by_plans.new.counter) (block_all c.args.definitions.now l.definitions l.invariant.kept) c.in_ok-run.ensures in
-    counted_run T (all_of_block c.args.definitions.now) c.args.first c.args.counter.now l.next l.counter c.in_ok-run.field-0 c.pass_by_plans.new.counter l.invariant.counts ran
+    let ran : CountsRun T (all_of_block c.args.definitions.now) l.next l.counter c.in_ok-run.run' c.pass_by_plans.new.counter = subst (λ (d : List (List Op)). CountsRun T d l.next l.counter c.in_ok-run.run' c.pass_by_plans.new.counter) (block_all c.args.definitions.now l.definitions l.invariant.kept) c.in_ok-run.ensures in
+    counted_run T (all_of_block c.args.definitions.now) c.args.first c.args.counter.now l.next l.counter c.in_ok-run.run' c.pass_by_plans.new.counter l.invariant.counts ran
 
 pub runs-preserved : goal.runs-preserved
 runs-preserved g c =
     let T = g.R.RunCounter.counted in
     let l = c.runs in
-    let run = c.in_ok-run.field-0 in
+    let run = c.in_ok-run.run' in
     let ran : CountsRun T (all_of_block c.args.definitions.now) l.next l.counter run c.pass_by_plans.new.counter = subst (λ (d : List (List Op)). CountsRun T d l.next l.counter run c.pass_by_plans.new.counter) (block_all c.args.definitions.now l.definitions l.invariant.kept) c.in_ok-run.ensures in
     record {
       kept = kept_both c.args.definitions.now l.definitions c.plan_next.new.definitions l.invariant.kept c.plan_next.ensures;
-      counts = counted_more T (all_of_block c.args.definitions.now) c.args.first c.args.counter.now l.next l.counter run c.pass_by_plans.new.counter (record l.next { bits = c.at.result; room = run.room }) refl refl c.at.ensures l.invariant.counts ran;
+      counts = counted_more T (all_of_block c.args.definitions.now) c.args.first c.args.counter.now l.next l.counter run c.pass_by_plans.new.counter (record l.next { bits = c.at-next.result; room = run.room }) refl refl c.at-next.ensures l.invariant.counts ran;
     }
 
 pub returns-clause-kept : goal.returns-clause-kept

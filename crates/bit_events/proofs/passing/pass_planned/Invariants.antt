@@ -7,5 +7,5 @@ abbrev pub invariant-runs : goal.invariant-runs
 invariant-runs g l =
     record {
       kept : KeptBlock l.fn.definitions l.definitions;
-      counts : CountedTo g.R.RunCounter.counted (all_of_block l.fn.definitions) l.fn.first l.fn.counter l.next l.counter;
+      counts : CountedTo g.R.RunCounter.counted (all_of_block l.fn.definitions) l.fn.first l.fn.counter l.next l.counter-2;
     }

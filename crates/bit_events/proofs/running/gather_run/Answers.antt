@@ -18,5 +18,5 @@ returns-clause-gathers g c =
     let m = c.args.machine.now in
     let items = rw c.deref.ensures.value at c.in-Some.ensures.item in
     let was = open_last m c.in-Some.frame.now (omega (arith, ltb-true 0 (length m.frames.items) (sym items.0))) items.1 in
-    lent_run g.G.Gatherer.gathered m.limits m (record m { definitions = c.lend_run.new.definitions; used = m.used + (c.room.result - c.in_ok-run.field-0.room) }) c.in-Some.frame.now _ c.room.result c.args.bits c.in_ok-run.field-0 c.args.gatherer.now c.lend_run.new.gatherer (placed c.at.result)
+    lent_run g.G.Gatherer.gathered m.limits m (record m { definitions = c.lend_run.new.definitions; used = m.used + (c.room.result - c.in_ok-run.run'.room) }) c.in-Some.frame.now _ c.room.result c.args.bits c.in_ok-run.run' c.args.gatherer.now c.lend_run.new.gatherer (placed c.at.result)
     c.requires.sound c.requires.plain was refl refl refl c.lend_run.ensures.keeps (sym c.room.ensures) c.in_ok-run.ensures.gathers c.at.ensures
