@@ -89,11 +89,10 @@ mark_found limits m f outer room a mark left b sound split plain most one =
     let event : Event = record_of mark.abbreviation mark.values a.position (mark.code, b.position) in
     let same : event ≡ notes mark = rw (← one.first, ← one.after) refl in
     let fields : Reads (entry (limits.values - m.used) a.position mark.abbreviation f.definitions) (beyond a f.head.width) (record { code = mark.code; values = mark.values }) b = rw most one.fields in
-    let made : machine_shown n ≡ after_record f outer (handed_shown m) mark.values = ap (λ (frames : List machine.Frame). record { frames = frames; handed = handed_shown n }) split in
     let read : Reads (step_of limits (f ∷ outer) (handed_shown m)) a (event, after_record f outer (handed_shown m) mark.values) b = record_seen limits f outer (handed_shown m) mark.abbreviation mark.code mark.values a (beyond a f.head.width) b plain one.is_record
         (took_at (fixed f.head.width) a mark.abbreviation (beyond a f.head.width) one.id) (took_at (entry (limits.values - m.used) a.position mark.abbreviation f.definitions) (beyond a f.head.width) (record { code = mark.code; values = mark.values }) b fields) in
     record {
-      reads = rw split (subst (λ (e : Event). Reads (step_of limits (f ∷ outer) (handed_shown m)) a (e, machine_shown n) b) same (subst (λ (x : machine.Machine). Reads (step_of limits (f ∷ outer) (handed_shown m)) a (event, x) b) (sym made) read));
+      reads = rw split (subst (λ (e : Event). Reads (step_of limits (f ∷ outer) (handed_shown m)) a (e, after_record f outer (handed_shown m) mark.values) b) same read);
       leaves = record {
         stands = some;
         opens = refl;
