@@ -8,17 +8,14 @@ pub mod Faults
 pub mod WholeInputs
 pub mod SomeBytes
 pub mod Folds
-pub mod Runs
 pub mod Blocks
-pub mod Counting
 pub mod PlacedHeads
 pub mod Kept
 pub mod Standings
 mod Named
 pub mod Rest
+pub mod InPlace
 pub mod PassedOver
-pub mod PassedEvents
-pub mod FewRecords
 pub mod Machines
 pub mod Rooms
 pub mod PlacedSteps
@@ -26,3 +23,5 @@ pub mod Finding
 pub mod Definables
 pub mod LookedAt
 pub mod Widths
+pub mod BlockKept
+pub mod Noting

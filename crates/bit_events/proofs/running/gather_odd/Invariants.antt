@@ -1,16 +1,15 @@
-use Rattle.std.proofs.Common.{◌≡◌, ◌-◌, ◌<◌, ◌^◌, false}
+use Rattle.std.proofs.Common.{length}
+use Rattle.bit_fields.specs.PlacedView.{placed}
 use Rattle.bit_events.specs.MachineView.{TookSome}
-use Rattle.bit_events.specs.Runs.{GathersTo}
+use Rattle.bit_events.specs.Runs.{GathersOn}
 use Rattle.bit_events.proofs.running.gather_odd.Given as goal
 
-abbrev pub invariant-loop-is_first : goal.invariant-loop-is_first
-invariant-loop-is_first g l = record {
-  gathers : GathersTo g.G.Gatherer.gathered l.limits l.frame l.fn.used l.fn.buffered l.fn.gatherer l.spent l.buffered l.gatherer;
-  room : l.room ≡ l.limits.values - l.spent;
-  first : l.first ≡ l.buffered.position;
-  took : TookSome g.G.Values.ValueTaker.took l.values;
-  moved : l.is_first ≡ false → l.fn.buffered.position < l.first;
-}
+abbrev pub invariant-records : goal.invariant-records
+invariant-records g l =
+    record {
+      took : TookSome g.G.Values.ValueTaker.took l.values.taker;
+      on : GathersOn g.G.Gatherer.gathered l.fn.machine.limits l.fn.machine (placed l.fn.from) l.fn.gatherer l.machine (placed l.bits) l.gatherer;
+    }
 
-abbrev pub decreases-loop-is_first : goal.decreases-loop-is_first
-decreases-loop-is_first g l = 2 ^ 64 - l.first
+abbrev pub decreases-records : goal.decreases-records
+decreases-records g l = length (placed l.bits).bits
