@@ -74,22 +74,11 @@ impl Stop {
 fn take_slice<S: Source>(
     first: &[u8],
     source: &mut S,
-<<<<<<< /tmp/o
-    slices: &mut Slices,
-    digits: &mut [u16],
-) -> Result<Option<Stop>, SourceFailed>
-    requires { slices.old.bytes ≤ length first.now }
-    ensures { TakesSlice first.now slices.old (S.incoming source.old) result slices.new (S.incoming source.new) }
-{
-||||||| /tmp/b
-    slices: &mut Slices,
-    digits: &mut [u16],
-) -> Result<Option<Stop>, SourceFailed>
-{
-=======
     taken: &mut usize,
-) -> Result<Option<Stop>, SourceFailed> {
->>>>>>> /tmp/t
+) -> Result<Option<Stop>, SourceFailed>
+    requires { taken.old ≤ length first.now }
+    ensures { TakesSlice first.now taken.old (S.incoming source.old) result taken.new (S.incoming source.new) }
+{
     if !source.look()? {
         return Ok(Some(Stop::Silent));
     }
@@ -114,28 +103,13 @@ fn take_slice<S: Source>(
 fn take_slices<S: Source>(
     first: &[u8],
     source: &mut S,
-<<<<<<< /tmp/o
-    slices: &mut Slices,
-    digits: &mut [u16],
-) -> Result<Stop, SourceFailed>
-    requires { slices.old.bytes ≡ 0 }
-    ensures { TakesSlices first.now slices.old (S.incoming source.old) result slices.new (S.incoming source.new) }
-{
-    while slices.bytes < first.len() && slices.has_room(digits) {
-        if let Some(stop) = take_slice(first, source, slices, digits)? {
-||||||| /tmp/b
-    slices: &mut Slices,
-    digits: &mut [u16],
-) -> Result<Stop, SourceFailed>
-{
-    while slices.bytes < first.len() && slices.has_room(digits) {
-        if let Some(stop) = take_slice(first, source, slices, digits)? {
-=======
     taken: &mut usize,
-) -> Result<Stop, SourceFailed> {
+) -> Result<Stop, SourceFailed>
+    requires { taken.old ≡ 0 }
+    ensures { TakesSlices first.now taken.old (S.incoming source.old) result taken.new (S.incoming source.new) }
+{
     while *taken < first.len() {
         if let Some(stop) = take_slice(first, source, taken)? {
->>>>>>> /tmp/t
             return Ok(stop);
         }
     }
@@ -190,17 +164,10 @@ fn take_beginning<S: Source>(
     limits: Limits,
     taken: &mut usize,
     next: &mut [u8; 1],
-<<<<<<< /tmp/o
 ) -> Result<Beginning, SourceFailed>
-    requires { slices.old.bytes ≡ 0 }
-    ensures { TakesBeginning limits first.now slices.new next.new (S.incoming source.old) result (S.incoming source.new) }
+    requires { taken.old ≡ 0 }
+    ensures { TakesBeginning limits first.now taken.new next.new (S.incoming source.old) result (S.incoming source.new) }
 {
-||||||| /tmp/b
-) -> Result<Beginning, SourceFailed>
-{
-=======
-) -> Result<Beginning, SourceFailed> {
->>>>>>> /tmp/t
     if first.len() as u64 > limits.bytes() {
         return Ok(Beginning::UNKNOWN);
     }
@@ -271,19 +238,10 @@ pub(crate) fn compare_checked<S: Source>(
     limits: Limits,
     info: Info<'_>,
     judged: bool,
-<<<<<<< /tmp/o
-    digits: &mut [u16],
 ) -> (Result<Option<Difference>, SameFault>, S)
     ensures { ComparesChecked judged (setting_of info.entry) limits first.now (S.incoming source) result.0
         (S.incoming result.1) }
 {
-||||||| /tmp/b
-    digits: &mut [u16],
-) -> (Result<Option<Difference>, SameFault>, S)
-{
-=======
-) -> (Result<Option<Difference>, SameFault>, S) {
->>>>>>> /tmp/t
     // The limits are within their caps, so no count of pulls up to the limit on bytes is exhausted.
     let _bytes = limits.bytes();
     let mut source = source;
@@ -312,87 +270,3 @@ pub(crate) fn compare_checked<S: Source>(
         Err(SourceFailed) => (Err(faulty(Which::Second, Fault::Read)), source),
     }
 }
-<<<<<<< /tmp/o
-
-/// The same with many digits.
-#[inline(never)]
-fn compare_long<S: Source>(
-    alloc: Global,
-    first: &[u8],
-    source: S,
-    limits: Limits,
-    info: Info<'_>,
-    judged: bool,
-) -> (Result<Option<Difference>, SameFault>, S)
-    ensures { ComparesChecked judged (setting_of info.entry) limits first.now (S.incoming source) result.0
-        (S.incoming result.1) }
-{
-    let mut digits = [0; MANY];
-    compare_noting(alloc, first, source, limits, info, judged, &mut digits)
-}
-
-/// Reads an input to its end, and returns where its tree and that of accepted bytes differ under a setting, if they do. The source
-/// is returned in its present state.
-///
-/// The bytes of both are compared first, and if they are all the same the input is read no further. Else it is read in step with
-/// the other bytes. The bytes that were taken are given again in the slices in which the source lent them, so that the source is
-/// asked where it would be without the comparison. `judged`: the other bytes are known to be accepted even if their source is not
-/// known.
-pub(crate) fn compare_checked<S: Source>(
-    alloc: Global,
-    first: &[u8],
-    source: S,
-    limits: Limits,
-    info: Info<'_>,
-    judged: bool,
-) -> (Result<Option<Difference>, SameFault>, S)
-    ensures { ComparesChecked judged (setting_of info.entry) limits first.now (S.incoming source) result.0
-        (S.incoming result.1) }
-{
-    if first.len() >= LONG {
-        return compare_long(alloc, first, source, limits, info, judged);
-    }
-    let mut digits = [0; FEW];
-    compare_noting(alloc, first, source, limits, info, judged, &mut digits)
-}
-||||||| /tmp/b
-
-/// The same with many digits.
-#[inline(never)]
-fn compare_long<S: Source>(
-    alloc: Global,
-    first: &[u8],
-    source: S,
-    limits: Limits,
-    info: Info<'_>,
-    judged: bool,
-) -> (Result<Option<Difference>, SameFault>, S)
-{
-    let mut digits = [0; MANY];
-    compare_noting(alloc, first, source, limits, info, judged, &mut digits)
-}
-
-/// Reads an input to its end, and returns where its tree and that of accepted bytes differ under a setting, if they do. The source
-/// is returned in its present state.
-///
-/// The bytes of both are compared first, and if they are all the same the input is read no further. Else it is read in step with
-/// the other bytes. The bytes that were taken are given again in the slices in which the source lent them, so that the source is
-/// asked where it would be without the comparison. `judged`: the other bytes are known to be accepted even if their source is not
-/// known.
-pub(crate) fn compare_checked<S: Source>(
-    alloc: Global,
-    first: &[u8],
-    source: S,
-    limits: Limits,
-    info: Info<'_>,
-    judged: bool,
-) -> (Result<Option<Difference>, SameFault>, S)
-{
-    if first.len() >= LONG {
-        return compare_long(alloc, first, source, limits, info, judged);
-    }
-    let mut digits = [0; FEW];
-    compare_noting(alloc, first, source, limits, info, judged, &mut digits)
-}
-=======
->>>>>>> /tmp/t

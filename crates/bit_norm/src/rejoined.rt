@@ -6,35 +6,6 @@ ghost use Rattle.bit_norm.specs.Rejoined.{rejoined_of, held_of, owed_of};
 
 use bit_fields::{Source, SourceFailed};
 
-<<<<<<< /tmp/o
-impl<'a> Again<'a> {
-    /// Gives these bytes again in `count` slices of these widths, and then others.
-    pub(crate) fn new(
-        bytes: &'a [u8],
-        count: usize,
-        widths: Widths<'a>,
-        next: &'a [u8],
-    ) -> Again<'a>
-        requires few { count ≤ length bytes.now }
-        requires none { count ≡ 0 → length bytes.now ≡ 0 }
-        ensures held { held_of result ≡ bytes.now ++ next.now }
-        ensures owed { owed_of result ≡ count + min 1 (length next.now) }
-    {
-        Again::behind(&[], bytes, count, widths, next)
-    }
-||||||| /tmp/b
-impl<'a> Again<'a> {
-    /// Gives these bytes again in `count` slices of these widths, and then others.
-    pub(crate) fn new(
-        bytes: &'a [u8],
-        count: usize,
-        widths: Widths<'a>,
-        next: &'a [u8],
-    ) -> Again<'a>
-    {
-        Again::behind(&[], bytes, count, widths, next)
-    }
-=======
 /// Bytes that are given again, and others behind them.
 #[derive(Clone, Copy)]
 pub(crate) struct Again<'a> {
@@ -44,34 +15,13 @@ pub(crate) struct Again<'a> {
     next: &'a [u8],
     ghost first: { length slice.now ≡ 0 → next.now ≡ [] },
 }
->>>>>>> /tmp/t
 
 impl<'a> Again<'a> {
     /// Gives these bytes again, and then others.
     #[inline(always)]
-<<<<<<< /tmp/o
-    fn behind(
-        slice: &'a [u8],
-        rest: &'a [u8],
-        more: usize,
-        widths: Widths<'a>,
-        next: &'a [u8],
-    ) -> Again<'a>
-        requires few { more ≤ length rest.now }
-        requires none { more ≡ 0 → rest.now ≡ [] }
-        ensures held { held_of result ≡ slice.now ++ (rest.now ++ next.now) }
-        ensures owed { owed_of result ≡ min 1 (length slice.now) + (more + min 1 (length next.now)) }
-||||||| /tmp/b
-    fn behind(
-        slice: &'a [u8],
-        rest: &'a [u8],
-        more: usize,
-        widths: Widths<'a>,
-        next: &'a [u8],
-    ) -> Again<'a>
-=======
     pub(crate) fn new(bytes: &'a [u8], next: &'a [u8]) -> Again<'a>
->>>>>>> /tmp/t
+        ensures held { held_of result ≡ bytes.now ++ next.now }
+        ensures owed { owed_of result ≡ min 1 (length bytes.now) + min 1 (length next.now) }
     {
         if bytes.is_empty() {
             return Again {
@@ -92,7 +42,6 @@ impl<'a> Again<'a> {
     }
 
     /// Takes the next bytes of a slice, at most `most`; none only if there are none, or room for none.
-<<<<<<< /tmp/o
     fn take(&mut self, most: usize) -> &'a [u8]
         ensures held { held_of self.old ≡ result.now ++ held_of self.new }
         ensures few { length result.now ≤ most }
@@ -100,35 +49,10 @@ impl<'a> Again<'a> {
         ensures owed { owed_of self.old ≤ owed_of self.new + 1 }
         ensures fewer { owed_of self.new ≤ owed_of self.old }
     {
-||||||| /tmp/b
-    fn take(&mut self, most: usize) -> &'a [u8]
-    {
-=======
-    fn take(&mut self, most: usize) -> &'a [u8] {
->>>>>>> /tmp/t
         let (given, left) = self.slice.split_at(most.min(self.slice.len()));
         *self = Again::new(left, self.next);
         given
     }
-<<<<<<< /tmp/o
-
-    /// The slice that is given next.
-    #[inline(always)]
-    fn shown(&self) -> &'a [u8]
-        ensures { (rest : List ℕ) × (held_of self.now ≡ result.now ++ rest) }
-    {
-        self.slice
-    }
-||||||| /tmp/b
-
-    /// The slice that is given next.
-    #[inline(always)]
-    fn shown(&self) -> &'a [u8]
-    {
-        self.slice
-    }
-=======
->>>>>>> /tmp/t
 }
 
 /// A source that gives these bytes again, and then the bytes of another one. It asks the other one for nothing before, and for

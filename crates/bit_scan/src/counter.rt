@@ -8,14 +8,8 @@ ghost use Rattle.bit_scan.specs.Rows.{block_tallies};
 use crate::rows::{Addition, BlockRow, BlockRows};
 use bit_abbrev::{BlockDefinitions, Coming, HeldOps};
 use bit_events::{Gatherer, PassedRun};
-<<<<<<< /tmp/o
-use bit_fields::{PlacedBits, ValueCount, ValueTaker};
-use indexmap::IndexMap;
-||||||| /tmp/b
-use bit_fields::{PlacedBits, ValueCount, ValueTaker};
-=======
 use bit_fields::{ValueCount, ValueTaker};
->>>>>>> /tmp/t
+use indexmap::IndexMap;
 use std::alloc::{AllocError, Global};
 use std::hash::BuildHasher;
 use std::marker::Model;

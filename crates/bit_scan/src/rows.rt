@@ -12,15 +12,7 @@ ghost use Rattle.bit_events.specs.Passing.{PassesRecords};
 ghost use Rattle.bit_scan.specs.declared.rows.Addition.TheVariants as addition;
 ghost use Rattle.bit_scan.specs.Rows.{block_tally, block_tallies, rows_after, with_codes, with_run, AddsToRow, CountsInRow};
 
-<<<<<<< /tmp/o
-use bit_abbrev::InForce;
-||||||| /tmp/b
-use crate::links::{Keyed, Spot, find, is_at, lead};
-use bit_abbrev::InForce;
-=======
-use crate::links::{Keyed, Spot, find, is_at, lead};
 use bit_abbrev::{BlockDefinitions, Coming};
->>>>>>> /tmp/t
 use bit_events::{CountedRecord, PassedRun, RunCounter, pass_records};
 use bit_fields::PlacedBits;
 use indexmap::IndexMap;
@@ -402,16 +394,8 @@ fn pass_at<H: BuildHasher>(
         → block_tallies rows.old.entries ≡ cut_rows tallies
         → block_tallies rows.new.entries ≡ cut_rows (rows_after records id tallies))) }
 {
-<<<<<<< /tmp/o
     let (_id, row) = rows.pair_mut(place);
-    row.pass(&mut places[place % 32], bits, width, definitions, room)
-||||||| /tmp/b
-    let (_, row) = &mut rows[place];
-    row.pass(&mut places[place % 32], bits, width, definitions, room)
-=======
-    let (_, row) = &mut rows[place];
     row.pass(&mut places[place % 32], next, definitions)
->>>>>>> /tmp/t
 }
 
 /// A row for each block id, in order of first entry.
@@ -513,16 +497,8 @@ impl<H: BuildHasher + Copy> BlockRows<H> {
             × ((tallies : List BlockTally) → block_tallies self.old.rows.entries ≡ cut_rows tallies
             → block_tallies self.new.rows.entries ≡ cut_rows (rows_after records id tallies))) }
     {
-<<<<<<< /tmp/o
         if !is_at(&self.rows, place, id) {
-            return Ok(PassedRun::none(bits, room));
-||||||| /tmp/b
-        if !is_at(&self.rows, place, u64::from(id)) {
-            return Ok(PassedRun::none(bits, room));
-=======
-        if !is_at(&self.rows, place, u64::from(id)) {
             return Ok(PassedRun::none(next));
->>>>>>> /tmp/t
         }
         pass_at(
             &mut self.rows,
