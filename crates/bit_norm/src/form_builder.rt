@@ -49,6 +49,7 @@ fn close_block(text: &mut BitText, hole: u64) -> Result<(), AllocError>
 }
 
 /// Adds what comes in a record before its values.
+#[tactic(auto, using(crate::proofs::ValueTexts::front_few))]
 fn add_record_head(text: &mut BitText, code: u64, count: u64) -> Result<(), AllocError>
     requires { length text.old < 2 ^ 38 }
     ensures ok { OnOk result (text.new ≡ text.old ++ record_front code count) }
@@ -59,6 +60,7 @@ fn add_record_head(text: &mut BitText, code: u64, count: u64) -> Result<(), Allo
 
 /// Adds a record of few values.
 #[inline(always)]
+#[tactic(auto, using(crate::proofs::ValueTexts::entry_few))]
 fn add_short_record(text: &mut BitText, code: u64, values: &[u64]) -> Result<(), AllocError>
     requires few { length text.old < 2 ^ 38 }
     requires short { length values.now ≤ 64 }
@@ -85,6 +87,7 @@ fn add_record(
 
 /// Adds a record of any number of values in pieces, until the text is longer than the limit on bytes. Returns whether it is whole.
 #[inline(never)]
+#[tactic(auto, using(crate::proofs::ValueTexts::values_few))]
 fn add_pieces(
     text: &mut BitText,
     limits: Limits,
@@ -149,6 +152,7 @@ impl<'a> FormBuilder<'a> {
     }
 
     /// The text, or `None` if the form is longer than the limit on bytes.
+    #[tactic(auto, using(crate::proofs::Building::whole_text, crate::proofs::Building::passes_whole))]
     pub(crate) fn finish(self) -> Option<BitText>
         ensures form { (first : FormBuilder) (events : List Event)
             → IsFormOf first events self.entry → left_open events ≡ 0

@@ -111,6 +111,7 @@ fn held_beside(own: Sign<'_>, bit: u64, ended: u64, sign: Sign<'_>, apart: &mut 
 }
 
 /// Compares an event that is kept with a sign. What comes before it ended at `ended`.
+#[tactic(auto, using(crate::proofs::InStep::begin_says, crate::proofs::InStep::record_says, crate::proofs::InStep::end_says))]
 fn weigh_left(event: PackedEvent<'_>, sign: Sign<'_>, ended: u64, apart: &mut Apart) -> Weighed
     ensures { IsBeside (said_of ended (event_shown event.entry)) (sign_shown sign.entry) result
         apart.new }
@@ -141,6 +142,7 @@ fn weigh_left(event: PackedEvent<'_>, sign: Sign<'_>, ended: u64, apart: &mut Ap
 }
 
 /// Compares an event with a sign, if it is kept, and updates the open blocks of the first input.
+#[tactic(auto, using(crate::proofs::InStep::left_says, crate::proofs::InStep::left_out_says))]
 fn weigh(
     event: PackedEvent<'_>,
     sign: Sign<'_>,

@@ -102,6 +102,7 @@ impl<H: BuildHasher + Copy> Counter<H> {
 
     /// Counts an item of the innermost open block.
     #[inline(always)]
+    #[tactic(auto, using(crate::proofs::OpenBlocks::counted_here))]
     fn count_here(&mut self, addition: Addition) -> Result<(), AllocError>
         ensures { (counts : Counts) → self.old ≡ capped_counts counts
             → OnOk result (self.new ≡ capped_counts (added_here addition counts)) }

@@ -94,6 +94,7 @@ pub(crate) fn write_values<K: Sink>(
 
 /// Writes the line of a record, piece by piece.
 #[inline(never)]
+#[tactic(auto, using(crate::proofs::Parted::no_first, crate::proofs::Parted::no_second, crate::proofs::Parted::third, crate::proofs::Parted::record_parts))]
 fn write_record_pieces<K: Sink>(
     printer: &mut Printer<K>,
     around: u32,
@@ -137,6 +138,7 @@ fn write_whole<K: Sink>(
 }
 
 /// Writes the line of a record.
+#[tactic(auto, using(crate::proofs::Prints::whole_printed, crate::proofs::Prints::pieces_follow))]
 fn write_record<K: Sink>(
     printer: &mut Printer<K>,
     around: u32,
