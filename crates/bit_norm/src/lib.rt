@@ -18,6 +18,7 @@
 //! its values are not held unless they differ. `same` is true if there is no first difference.
 #![tactic(auto)]
 
+mod again;
 mod alike;
 mod comparing;
 mod difference_laws;
