@@ -14,6 +14,9 @@ use bit_fields::{Fault, Limits, SliceSource, Source, SourceFailed};
 use bit_tree::Info;
 use std::alloc::Global;
 
+#[cfg(test)]
+mod asking_tests;
+
 /// Whether two slices have the same bytes.
 #[inline(always)]
 fn are_equal(a: &[u8], b: &[u8]) -> bool
