@@ -89,7 +89,7 @@ impl Gatherer for Counted {
     fn pass(
         &mut self,
         next: Coming<'_>,
-        definitions: BlockDefinitions<'_>,
+        definitions: &mut BlockDefinitions<'_>,
     ) -> Result<PassedRun, AllocError> {
         pass_records(next, definitions, self)
     }
@@ -100,6 +100,14 @@ impl Gatherer for Counted {
 }
 
 impl RunCounter for Counted {
+    ghost use Rattle.std.specs.Prelude.{false};
+
+    ghost counted = { λ first records last. Unit {0} };
+
+    ghost asks = { false };
+
+    ghost lists = { false };
+
     fn count(&mut self, passed: CountedRecord, _values: &[u64]) -> Result<bool, AllocError> {
         if !self.passes() {
             return Ok(false);

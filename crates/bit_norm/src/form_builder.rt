@@ -4,6 +4,8 @@ ghost use Rattle.bit_grammar.specs.Marks.{RecordMark};
 ghost use Rattle.bit_grammar.specs.Setting.{setting_of};
 ghost use Rattle.bit_grammar.specs.Normal.{most_bytes, values_bits, end_text};
 ghost use Rattle.bit_events.specs.Gathering.{left_open};
+ghost use Rattle.bit_abbrev.specs.BlockMarks.{all_in, AreInForce};
+ghost use Rattle.bit_abbrev.specs.BlockPlans.{all_of_block, StandsFor};
 ghost use Rattle.bit_fields.specs.PlacedView.{placed};
 ghost use Rattle.bit_fields.specs.Texts.{with_word};
 ghost use Rattle.bit_events.specs.MachineView.{TookSome};
@@ -293,12 +295,11 @@ impl<'a> FormBuilder<'a> {
         next: Coming<'_>,
         definitions: &InForce<'_>,
     ) -> Result<PassedRun, AllocError>
-        requires width { width ≤ 32 }
+        requires sound { AreInForce definitions.now }
+        requires width { next.width ≤ 32 }
         requires short { self.old.long ≡ false }
         requires kept { (code : ℕ) → record_left self.old.standing code ≡ true }
-        ensures { IfOk result (λ run. (run.room ≤ room) × ((records : List RecordMark)
-            × PassesRecords width definitions.now room (placed bits.entry) records run
-            × GathersRecords IsFormOf self.old records self.new)) }
+        ensures { IfOk result (λ run. PassesRun IsFormOf (all_in definitions.now) next.entry self.old run self.new) }
     {
         let mut next = next;
         while !is_long(&self.text, self.limits) {
@@ -324,11 +325,11 @@ impl<'a> FormBuilder<'a> {
     fn pass_run(
         &mut self,
         next: Coming<'_>,
-        definitions: BlockDefinitions<'_>,
+        definitions: &BlockDefinitions<'_>,
     ) -> Result<PassedRun, AllocError>
-        requires width { width ≤ 32 }
-        ensures { IfOk result (λ run. PassesRun IsFormOf width definitions.now.all room (placed bits.entry)
-            self.old run self.new) }
+        requires stands { StandsFor definitions.now }
+        requires width { next.width ≤ 32 }
+        ensures { IfOk result (λ run. PassesRun IsFormOf (all_of_block definitions.now) next.entry self.old run self.new) }
     {
         if self.long || !self.standing.is_whole() {
             return Ok(PassedRun::none(next));
@@ -383,7 +384,11 @@ impl<'a> Gatherer for FormBuilder<'a> {
     }
 
     #[inline(always)]
-    fn pass(&mut self, next: Coming<'_>, definitions: BlockDefinitions<'_>) -> Result<PassedRun, AllocError> {
+    fn pass(
+        &mut self,
+        next: Coming<'_>,
+        definitions: &mut BlockDefinitions<'_>,
+    ) -> Result<PassedRun, AllocError> {
         self.pass_run(next, definitions)
     }
 

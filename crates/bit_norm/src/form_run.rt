@@ -1,6 +1,15 @@
 //! Runs of records that are read from buffered bits and stored into bytes at once.
 
-use bit_abbrev::{Coming, FIELDS, HeldOp, Here, InForce, MOST_VALUES, Visitor, Walked, value_of, walk};
+ghost use Rattle.std.specs.Prelude.{◌+◌, ◌*◌, ◌^◌, ◌<◌, ◌≤◌, length, MatchOption};
+ghost use Rattle.bit_abbrev.specs.PlaceLayouts.{IsSinglePlace};
+ghost use Rattle.bit_abbrev.specs.Taking.{op_held};
+ghost use Rattle.bit_fields.specs.Pens.{KeepsFront};
+ghost use Rattle.bit_fields.specs.PlacedView.{placed};
+ghost use Rattle.bit_norm.specs.Written.{WritesElements};
+
+use bit_abbrev::{
+    Coming, FIELDS, HeldOp, Here, InForce, MOST_VALUES, Visitor, Walked, Walker, value_of, walk,
+};
 use bit_fields::{PlacedBits, put, put_front, put_number, put_two, take_back};
 
 /// How many bits of room a record of at most 31 values takes at most, with the eight bytes that its last number is stored into.
@@ -14,63 +23,32 @@ pub(crate) struct Storing<'a> {
     pub(crate) definitions: &'a InForce<'a>,
 }
 
-impl<'d> Visitor<u8> for Storing<'d> {
-    #[inline(always)]
-    fn has_front(self) -> bool {
-        true
-    }
+impl<'d> Walker<u8> for Storing<'d> {
+    ghost use Rattle.std.specs.Prelude.{◌≡◌, ◌+◌, ◌*◌, ◌^◌, ◌<◌, ◌≤◌, false, length};
+    ghost use Rattle.bit_abbrev.specs.BlockMarks.{all_in, AreInForce};
+    ghost use Rattle.bit_fields.specs.Pens.{KeepsFront};
+    ghost use Rattle.bit_norm.specs.Stored.{EndsAt, Stored};
 
-    #[inline(always)]
-    fn joins(self) -> bool {
-        true
-    }
+    ghost knows = { λ by definitions. all_in by.definitions.now ≡ definitions };
+
+    ghost suits = { λ by bytes. AreInForce by.definitions.now × (by.last + 2800 ≤ 8 * length bytes)
+        × (8 * length bytes < 2 ^ 64) };
+
+    ghost has_room = { λ by at. at ≤ by.last };
+
+    ghost keeps = { λ by first from code values last to. Stored first from code (length values) values last to };
+
+    ghost spares = { λ by first at last. KeepsFront at first last };
+
+    ghost ends = { λ by first at last. EndsAt first at last };
+
+    ghost tells = { false };
+
+    ghost lists = { false };
 
     #[inline(always)]
     fn is_full(self, at: u64) -> bool {
         at > self.last
-    }
-
-    #[inline(always)]
-    fn fits(self, bytes: &[u8], at: u64, count: u64) -> bool {
-        count <= MOST_VALUES && 78 * count <= 8 * bytes.len() as u64 - at - SHORT
-    }
-
-    #[inline(always)]
-    fn front(self, bytes: &mut [u8], at: u64, code: u64, count: u64) -> u64 {
-        put_front(bytes, at, code, count)
-    }
-
-    #[inline(always)]
-    fn value(self, bytes: &mut [u8], at: u64, value: u64) -> Option<u64> {
-        Some(put_number(bytes, at, value))
-    }
-
-    #[inline(always)]
-    fn few_sixes<'a>(self, bytes: &mut [u8], here: Here<'a>, count: u64) -> Option<Here<'a>> {
-        let (word, len) = here.bits.few_shortest(count)?;
-        let at = put(bytes, here.at, len, word);
-        Some(Here {
-            at,
-            bits: here.bits.after(len),
-        })
-    }
-
-    #[inline(always)]
-    fn sixes<'a>(self, bytes: &mut [u8], here: Here<'a>, count: u64) -> Option<Here<'a>> {
-        let (at, bits) = here.bits.write_sixes(bytes, here.at, count)?;
-        Some(Here { at, bits })
-    }
-
-    #[inline(always)]
-    fn fields<'a>(
-        self,
-        bytes: &mut [u8],
-        here: Here<'a>,
-        op: HeldOp,
-        count: u64,
-    ) -> Option<Here<'a>> {
-        let (at, bits) = store_pairs(bytes, here.at, here.bits, op, count)?;
-        Some(Here { at, bits })
     }
 
     #[inline(always)]
@@ -112,6 +90,96 @@ impl<'d> Visitor<u8> for Storing<'d> {
     fn take_back(self, bytes: &mut [u8], at: u64) {
         take_back(bytes, at);
     }
+
+    #[inline(always)]
+    fn values(self, _bytes: &[u8], _count: u64) -> &[u64] {
+        &[]
+    }
+}
+
+impl<'d> Visitor<u8> for Storing<'d> {
+    ghost use Rattle.std.specs.Prelude.{true};
+    ghost use Rattle.bit_fields.specs.Pens.{KeepsFront};
+    ghost use Rattle.bit_norm.specs.Stored.{HasRoom, HasRoomForRecord, Stored};
+    ghost use Rattle.bit_norm.specs.StoredLaws.{is_fronted, keeps_same, stored_spares};
+
+    ghost stored = { λ by. Stored };
+
+    ghost spared = { λ by first from last. KeepsFront from first last };
+
+    ghost roomy = { λ by. HasRoomForRecord };
+
+    ghost room = { λ by. HasRoom };
+
+    ghost fronted = { true };
+
+    #[inline(always)]
+    fn has_front(self) -> bool {
+        true
+    }
+
+    #[inline(always)]
+    fn joins(self) -> bool {
+        true
+    }
+
+    #[inline(always)]
+    fn fits(self, bytes: &[u8], at: u64, count: u64) -> bool {
+        count <= MOST_VALUES && 78 * count <= 8 * bytes.len() as u64 - at - SHORT
+    }
+
+    #[inline(always)]
+    #[tactic(auto, using(crate::proofs::Stored::stored_begun, crate::proofs::Stored::room_begun))]
+    fn front(self, bytes: &mut [u8], at: u64, code: u64, count: u64) -> u64 {
+        put_front(bytes, at, code, count)
+    }
+
+    #[inline(always)]
+    #[tactic(auto, using(crate::proofs::Stored::one_stored, crate::proofs::Stored::room_value))]
+    fn value(self, bytes: &mut [u8], at: u64, value: u64) -> Option<u64> {
+        Some(put_number(bytes, at, value))
+    }
+
+    #[inline(always)]
+    #[tactic(auto, using(crate::proofs::Stored::word_stored, crate::proofs::Stored::room_word, crate::proofs::Stored::word_short))]
+    fn few_sixes<'a>(self, bytes: &mut [u8], here: Here<'a>, count: u64) -> Option<Here<'a>> {
+        let (word, len) = here.bits.few_shortest(count)?;
+        let at = put(bytes, here.at, len, word);
+        Some(Here {
+            at,
+            bits: here.bits.after(len),
+        })
+    }
+
+    #[inline(always)]
+    #[tactic(auto, using(crate::proofs::Stored::sixes_stored_all, crate::proofs::Stored::spared_then, crate::proofs::Stored::room_sixes))]
+    fn sixes<'a>(self, bytes: &mut [u8], here: Here<'a>, count: u64) -> Option<Here<'a>> {
+        let (at, bits) = here.bits.write_sixes(bytes, here.at, count)?;
+        Some(Here { at, bits })
+    }
+
+    #[inline(always)]
+    #[tactic(auto, using(crate::proofs::Stored::elements_stored, crate::proofs::Stored::spared_then))]
+    fn fields<'a>(
+        self,
+        bytes: &mut [u8],
+        here: Here<'a>,
+        op: HeldOp,
+        count: u64,
+    ) -> Option<Here<'a>> {
+        let (at, bits) = store_pairs(bytes, here.at, here.bits, op, count)?;
+        Some(Here { at, bits })
+    }
+
+    ghost begins = { λ none. is_fronted none _ };
+
+    ghost other = { λ none. is_fronted none _ };
+
+    ghost as_roomy = { λ none. is_fronted none _ };
+
+    ghost untouched = { λ by first from. keeps_same from first };
+
+    ghost leaves = { λ by first from code count done last to is. stored_spares first from code count done last to is };
 }
 
 /// Stores the elements of an array, two at a time. Gives the position after them, and the bits behind their fields.
@@ -122,7 +190,14 @@ fn store_pairs<'a>(
     fields: PlacedBits<'a>,
     element: HeldOp,
     count: u64,
-) -> Option<(u64, PlacedBits<'a>)> {
+) -> Option<(u64, PlacedBits<'a>)>
+    requires single { IsSinglePlace element }
+    requires room { at + (78 * count + 64) ≤ 8 * length bytes.old }
+    requires counted { 8 * length bytes.old < 2 ^ 64 }
+    ensures { MatchOption result (KeepsFront at bytes.old bytes.new)
+        (λ done. WritesElements (op_held element) count (placed fields.entry) at bytes.old done.0 (placed done.1)
+        bytes.new) }
+{
     let mut bits = fields;
     let mut pen = at;
     let mut left = count;

@@ -167,7 +167,11 @@ impl<H: BuildHasher + Copy> Gatherer for Counter<H> {
     }
 
     #[inline(always)]
-    fn pass(&mut self, next: Coming<'_>, definitions: BlockDefinitions<'_>) -> Result<PassedRun, AllocError> {
+    fn pass(
+        &mut self,
+        next: Coming<'_>,
+        definitions: &mut BlockDefinitions<'_>,
+    ) -> Result<PassedRun, AllocError> {
         match self.open.last() {
             Some(block) => self
                 .rows

@@ -7,6 +7,7 @@ ghost use Rattle.bit_scan.specs.Additions.{with_added};
 ghost use Rattle.bit_scan.specs.CodesView.{code_tallies, with_use, CountsUse};
 ghost use Rattle.bit_scan.specs.Cut.{cut_code, cut_row, cut_rows};
 ghost use Rattle.bit_grammar.specs.Marks.{RecordMark};
+ghost use Rattle.bit_abbrev.specs.BlockPlans.{all_of_block, KeepsBlock, StandsFor};
 ghost use Rattle.bit_fields.specs.PlacedView.{placed};
 ghost use Rattle.bit_events.specs.Passing.{PassesRecords};
 ghost use Rattle.bit_scan.specs.declared.rows.Addition.TheVariants as addition;
@@ -314,8 +315,14 @@ struct RowCounter<'a, H: BuildHasher> {
 }
 
 impl<'a, H: BuildHasher> RunCounter for RowCounter<'a, H> {
+    ghost use Rattle.std.specs.Prelude.{true, false};
     ghost use Rattle.bit_scan.specs.Rows.{CountsBehind};
 
+    ghost counted = { λ first records last. CountsBehind first records last };
+
+    ghost asks = { true };
+
+    ghost lists = { false };
 
     #[inline(always)]
     fn count(&mut self, passed: CountedRecord, _values: &[u64]) -> Result<bool, AllocError> {
@@ -333,12 +340,17 @@ impl<H: BuildHasher> BlockRow<H> {
         &mut self,
         places: &mut CodePlaces,
         next: Coming<'_>,
-        definitions: BlockDefinitions<'_>,
+        definitions: &mut BlockDefinitions<'_>,
     ) -> Result<PassedRun, AllocError>
-        requires width { width ≤ 32 }
-        ensures { IfOk result (λ run. (records : List RecordMark)
+        requires stands { StandsFor definitions.old }
+        requires width { next.width ≤ 32 }
+        ensures same_reference { definitions.new.definitions.ghost_name ≡ definitions.old.definitions.ghost_name }
+        ensures marks { definitions.new.marks ≡ definitions.old.marks }
+        ensures keeps { KeepsBlock definitions.old.marks definitions.old.definitions.now
+            definitions.new.definitions.now }
+        ensures counts { IfOk result (λ run. (records : List RecordMark)
             × CountsInRow self.old records self.new
-            × PassesRecords width definitions.now.all room (placed bits.entry) records run) }
+            × PassesRecords next.entry.width (all_of_block definitions.old) next.entry.room (placed next.entry.bits) records run) }
     {
         let mut counter = RowCounter {
             row: self,
@@ -383,12 +395,17 @@ fn pass_at<H: BuildHasher>(
     places: &mut Places,
     place: usize,
     next: Coming<'_>,
-    definitions: BlockDefinitions<'_>,
+    definitions: &mut BlockDefinitions<'_>,
 ) -> Result<PassedRun, AllocError>
     requires within { place < index_map_len rows.old }
-    requires width { width ≤ 32 }
-    ensures { IfOk result (λ run. (records : List RecordMark)
-        × PassesRecords width definitions.now.all room (placed bits.entry) records run
+    requires stands { StandsFor definitions.old }
+    requires width { next.width ≤ 32 }
+    ensures same_reference { definitions.new.definitions.ghost_name ≡ definitions.old.definitions.ghost_name }
+    ensures marks { definitions.new.marks ≡ definitions.old.marks }
+    ensures keeps { KeepsBlock definitions.old.marks definitions.old.definitions.now
+        definitions.new.definitions.now }
+    ensures counts { IfOk result (λ run. (records : List RecordMark)
+        × PassesRecords next.entry.width (all_of_block definitions.old) next.entry.room (placed next.entry.bits) records run
         × ((id : ℕ) (tallies : List BlockTally)
         → slice_get (keys rows.old) place ≡ Some id
         → block_tallies rows.old.entries ≡ cut_rows tallies
@@ -489,11 +506,16 @@ impl<H: BuildHasher + Copy> BlockRows<H> {
         id: u32,
         place: usize,
         next: Coming<'_>,
-        definitions: BlockDefinitions<'_>,
+        definitions: &mut BlockDefinitions<'_>,
     ) -> Result<PassedRun, AllocError>
-        requires width { width ≤ 32 }
-        ensures { IfOk result (λ run. (records : List RecordMark)
-            × PassesRecords width definitions.now.all room (placed bits.entry) records run
+        requires stands { StandsFor definitions.old }
+        requires width { next.width ≤ 32 }
+        ensures same_reference { definitions.new.definitions.ghost_name ≡ definitions.old.definitions.ghost_name }
+        ensures marks { definitions.new.marks ≡ definitions.old.marks }
+        ensures keeps { KeepsBlock definitions.old.marks definitions.old.definitions.now
+            definitions.new.definitions.now }
+        ensures counts { IfOk result (λ run. (records : List RecordMark)
+            × PassesRecords next.entry.width (all_of_block definitions.old) next.entry.room (placed next.entry.bits) records run
             × ((tallies : List BlockTally) → block_tallies self.old.rows.entries ≡ cut_rows tallies
             → block_tallies self.new.rows.entries ≡ cut_rows (rows_after records id tallies))) }
     {

@@ -635,6 +635,17 @@ impl<K: Sink> EventWriter<K> {
 }
 
 impl<K: Sink> RunCounter for EventWriter<K> {
+    ghost use Rattle.std.specs.Prelude.{◌≡◌, true};
+    ghost use Rattle.bit_events.specs.Passing.{GathersRecords};
+    ghost use Rattle.bit_scan.specs.Telling.{WroteLines};
+
+    ghost counted = { GathersRecords (λ first events last. WroteLines first.style first.around first.printer events
+        last.around last.printer × (last.style ≡ first.style) × (last.stopped ≡ first.stopped)) };
+
+    ghost asks = { true };
+
+    ghost lists = { true };
+
     #[inline(always)]
     fn count(&mut self, record: CountedRecord, values: &[u64]) -> Result<bool, AllocError> {
         let noted = Noted {
@@ -713,7 +724,11 @@ impl<K: Sink> Gatherer for EventWriter<K> {
     }
 
     #[inline(always)]
-    fn pass(&mut self, next: Coming<'_>, definitions: BlockDefinitions<'_>) -> Result<PassedRun, AllocError> {
+    fn pass(
+        &mut self,
+        next: Coming<'_>,
+        definitions: &mut BlockDefinitions<'_>,
+    ) -> Result<PassedRun, AllocError> {
         list_records(next, definitions, self)
     }
 
