@@ -1,8 +1,10 @@
 -- Records whose text was appended to a form at once.
-use Rattle.std.proofs.Common.{◌≡◌, ◌⊎◌, inl, inr, ℕ, ◌*◌, ◌-◌, ◌%◌, ◌<◌, ◌≤◌, Bool, true, false, List, [], ◌∷◌, ◌++◌, length, take, drop, map, replicate, refl, sym, ap, ◌∙◌, subst, arith, append_assoc}
-use Rattle.std.proofs.lemmas.List.{append-nil, length-append, take_at}
+use Rattle.std.proofs.Common.{◌≡◌, ◌⊎◌, inl, inr, ℕ, ◌*◌, ◌-◌, ◌%◌, ◌<◌, ◌≤◌, Bool, true, false, List, [], ◌∷◌, ◌++◌, length, take, drop, map, replicate, Result, Ok, Err, IfOk, refl, sym, ap, ◌∙◌, subst, arith, append_assoc}
+use Rattle.std.proofs.lemmas.List.{append-nil, length-append, length-drop, take_at}
 use Rattle.bit_grammar.specs.declared.op.Op.{Op}
 use Rattle.bit_grammar.specs.Bits.{bits_of, bits_of_bytes}
+use Rattle.bit_grammar.specs.Blocks.{entry}
+use Rattle.bit_grammar.specs.Fields.{fixed}
 use Rattle.bit_grammar.specs.Machine.{Event, notes}
 use Rattle.bit_grammar.specs.Marks.{RecordMark}
 use Rattle.bit_grammar.specs.Normal.{entry_text}
@@ -16,12 +18,13 @@ use Rattle.bit_abbrev.specs.declared.coming.Coming.{Coming}
 use Rattle.bit_fields.proofs.BitLaws.{length-bits_of_bytes}
 use Rattle.bit_events.specs.Gathering.{left_open}
 use Rattle.bit_events.specs.declared.passing.PassedRun.{PassedRun}
-use Rattle.bit_events.specs.Passing.{GathersRecords, KeepsAll, PassesRecords, PassesRun, ReadsRecords}
+use Rattle.bit_events.specs.Passing.{GathersRecords, KeepsAll, PassesRecords, PassesRun, ReadsRecord, ReadsRecords, WalksRun}
 use Rattle.bit_events.proofs.Folds.{open_behind-push}
-use Rattle.bit_events.proofs.PassedOver.{passes_records, reads_then}
+use Rattle.bit_events.proofs.InPlace.{later_read, some_bits}
+use Rattle.bit_events.proofs.PassedOver.{passes_records, reads_then, records_later}
 use Rattle.bit_norm.specs.Building.{IsFormOf, record_left}
 use Rattle.bit_norm.specs.Stored.{EndsAt, Stored}
-use Rattle.bit_norm.specs.Written.{records_bits}
+use Rattle.bit_norm.specs.Written.{records_bits, StoresRun}
 use Rattle.bit_norm.specs.declared.form_builder.FormBuilder.{FormBuilder}
 use Rattle.bit_norm.proofs.Building.{record_added}
 use Rattle.bit_norm.proofs.Written.{entry_whole}
@@ -174,3 +177,32 @@ so_far_gathered definitions first old next new run so room after short kept = (
 -- a vector whose elements were stored
 pub items_back : (len : ℕ) (new items : List ℕ) → len ≡ length items → length new ≡ length items → take len (new ++ drop (length new) items) ≡ new
 items_back len new items all same = take_at new (drop (length new) items) len (omega (arith, all, same))
+
+-- ---- a run that is stored
+
+pub stores_run : {R E : Type 0} (counted : R → List RecordMark → R → Type 0) (knows : List (List Op) → Type 0) (definitions : List (List Op)) (next : Coming) (one : R) (old : List ℕ) (two : R) (new : List ℕ) (result : Result PassedRun E) → knows definitions
+    → IfOk result (λ run. (some : List (List Op)) → knows some → WalksRun StoresRecord EndsAt counted some next one old run two new) → IfOk result (λ run. StoresRun definitions next old run new)
+stores_run counted knows definitions next one old two new (Ok run) known walks =
+    let walked = walks definitions known in
+    record { records = walked.records; passes = walked.passes; puts = run_stored walked.records old next.at walked.mid run.at new walked.kept walked.cells }
+stores_run counted knows definitions next one old two new (Err e) known walks = tt
+
+-- a record takes bits
+record_shorter : (width : ℕ) (definitions : List (List Op)) (room : ℕ) (a : BufferedBits) (mark : RecordMark) (left : ℕ) (b : BufferedBits) → ReadsRecord width definitions room a mark left b → length b.bits < length a.bits
+record_shorter width definitions room a mark left b one =
+    let id = later_read (fixed width) a mark.abbreviation (beyond a width) one.id in
+    let wide : width ≤ length a.bits = omega (arith, id.there) in
+    let some = some_bits width mark.abbreviation a (beyond a width) wide one.is_record one.id in
+    let rest = later_read (entry room a.position mark.abbreviation definitions) (beyond a width) (record { code = mark.code; values = mark.values }) b one.fields in
+    omega (arith, some, wide, length-drop width a.bits, ap (λ (d : BufferedBits). length d.bits) rest.is, length-drop (b.position - (beyond a width).position) (beyond a width).bits)
+
+-- some records were stored, and so took bits
+pub stored_some : (definitions : List (List Op)) (next : Coming) (old : List ℕ) (run : PassedRun) (new : List ℕ) (stores : StoresRun definitions next old run new) → next.at < run.at → (c : BufferedBits) → c ≡ end_of next run → length c.bits < length (placed next.bits).bits
+stored_some definitions next old run new stores more c is = some_records stores.records (omega (arith, more, stores.puts.ends)) stores.passes.reads
+  where
+    some_records : (records : List RecordMark) → 0 < length (records_bits records) → ReadsRecords next.width definitions next.room (placed next.bits) records run.room (end_of next run) → length c.bits < length (placed next.bits).bits
+    some_records [] some reads = absurd (omega (arith, some))
+    some_records (mark ∷ records) some reads =
+        let first = record_shorter next.width definitions next.room (placed next.bits) mark reads.0 reads.1 reads.2 in
+        let others = records_later next.width definitions reads.0 reads.1 records run.room (end_of next run) reads.3 in
+        omega (arith, first, ap (λ (d : BufferedBits). length d.bits) is, ap (λ (d : BufferedBits). length d.bits) others.is, length-drop ((end_of next run).position - reads.1.position) reads.1.bits)

@@ -1,22 +1,20 @@
 ghost use Rattle.std.specs.Prelude.{◌≡◌, ◌+◌, ◌*◌, ◌/◌, ◌^◌, ◌<◌, ◌≤◌, ℕ, List, [], ◌++◌, length, true, false, IfSome, MatchOption, IfOk, OnOk};
 ghost use Rattle.bit_grammar.specs.Machine.{Event};
-ghost use Rattle.bit_grammar.specs.Marks.{RecordMark};
 ghost use Rattle.bit_grammar.specs.Setting.{setting_of};
 ghost use Rattle.bit_grammar.specs.Normal.{most_bytes, values_bits, end_text};
 ghost use Rattle.bit_events.specs.Gathering.{left_open};
 ghost use Rattle.bit_abbrev.specs.BlockMarks.{all_in, AreInForce};
 ghost use Rattle.bit_abbrev.specs.BlockPlans.{all_of_block, StandsFor};
-ghost use Rattle.bit_fields.specs.PlacedView.{placed};
 ghost use Rattle.bit_fields.specs.Texts.{with_word};
 ghost use Rattle.bit_events.specs.MachineView.{TookSome};
-ghost use Rattle.bit_events.specs.Passing.{GathersRecords, PassesRecords, PassesRun};
+ghost use Rattle.bit_events.specs.Passing.{PassesRun};
 ghost use Rattle.bit_norm.specs.Building.{HasTaken, record_left, AddsRecord, GrowsTo, IsFormOf, StaysAs, BuildsBlock, BuildsEnd, BuildsRecord, IsTooLong, IsWholeForm};
 ghost use Rattle.bit_norm.specs.Writing.{record_front, record_text, enter_text};
 
-use crate::form_run::{SHORT, Storing};
+use crate::form_run::{SHORT, store_run};
 use crate::form_values::{FormValues, is_long};
 use bit_abbrev::{BlockDefinitions, Coming, HeldOps, InForce};
-use bit_events::{Gatherer, OpenBlocks, PassedRun, Uncounted, walk_run};
+use bit_events::{Gatherer, OpenBlocks, PassedRun};
 use bit_fields::{BitText, Limits};
 use bit_tree::Info;
 use std::alloc::{AllocError, Global};
@@ -307,9 +305,8 @@ impl<'a> FormBuilder<'a> {
             let mut bytes = lent;
             let most = (8 * self.limits.bytes() + 7).saturating_sub(self.text.len());
             let last = most.min(8 * bytes.len() as u64 - SHORT);
-            let by = Storing { last, definitions };
             next.at = at;
-            let run = walk_run(by, &mut bytes, next, &mut Uncounted)?;
+            let run = store_run(&mut bytes, next, last, definitions)?;
             self.text.give_back(bytes, run.at)?;
             if run.at <= last {
                 return Ok(run);

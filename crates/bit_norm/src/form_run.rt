@@ -1,16 +1,19 @@
 //! Runs of records that are read from buffered bits and stored into bytes at once.
 
-ghost use Rattle.std.specs.Prelude.{◌+◌, ◌*◌, ◌^◌, ◌<◌, ◌≤◌, length, MatchOption};
+ghost use Rattle.std.specs.Prelude.{◌+◌, ◌*◌, ◌^◌, ◌<◌, ◌≤◌, length, IfOk, MatchOption};
+ghost use Rattle.bit_abbrev.specs.BlockMarks.{all_in, AreInForce};
 ghost use Rattle.bit_abbrev.specs.PlaceLayouts.{IsSinglePlace};
 ghost use Rattle.bit_abbrev.specs.Taking.{op_held};
 ghost use Rattle.bit_fields.specs.Pens.{KeepsFront};
 ghost use Rattle.bit_fields.specs.PlacedView.{placed};
-ghost use Rattle.bit_norm.specs.Written.{WritesElements};
+ghost use Rattle.bit_norm.specs.Written.{StoresRun, WritesElements};
 
 use bit_abbrev::{
     Coming, FIELDS, HeldOp, Here, InForce, MOST_VALUES, Visitor, Walked, Walker, value_of, walk,
 };
+use bit_events::{PassedRun, Uncounted, walk_run};
 use bit_fields::{PlacedBits, put, put_front, put_number, put_two, take_back};
+use std::alloc::AllocError;
 
 /// How many bits of room a record of at most 31 values takes at most, with the eight bytes that its last number is stored into.
 pub(crate) const SHORT: u64 = 2800;
@@ -18,9 +21,9 @@ pub(crate) const SHORT: u64 = 2800;
 /// A visitor that stores the shortest spelling of each number, as long as the place for a record is at most `last`. Its places are bits
 /// of bytes.
 #[derive(Clone, Copy)]
-pub(crate) struct Storing<'a> {
-    pub(crate) last: u64,
-    pub(crate) definitions: &'a InForce<'a>,
+struct Storing<'a> {
+    last: u64,
+    definitions: &'a InForce<'a>,
 }
 
 impl<'d> Walker<u8> for Storing<'d> {
@@ -220,4 +223,21 @@ fn store_pairs<'a>(
         bits = after;
     }
     Some((pen, bits))
+}
+
+/// Stores records that come next, as long as the place for a record is at most `last`.
+#[inline(always)]
+pub(crate) fn store_run(
+    bytes: &mut [u8],
+    next: Coming<'_>,
+    last: u64,
+    definitions: &InForce<'_>,
+) -> Result<PassedRun, AllocError>
+    requires sound { AreInForce definitions.now }
+    requires width { next.width ≤ 32 }
+    requires space { last + 2800 ≤ 8 * length bytes.old }
+    requires counted { 8 * length bytes.old < 2 ^ 64 }
+    ensures { IfOk result (λ run. StoresRun (all_in definitions.now) next.entry bytes.old run bytes.new) }
+{
+    walk_run(Storing { last, definitions }, bytes, next, &mut Uncounted)
 }
