@@ -1,12 +1,14 @@
 -- Records that are stored value by value.
-use Rattle.std.proofs.Common.{◌≡◌, ℕ, ◌+◌, ◌*◌, ◌-◌, ◌<◌, ◌≤◌, Bool, true, false, List, [], ◌∷◌, ◌++◌, length, refl, sym, ap, ◌∙◌, subst, arith, append_assoc}
+use Rattle.std.proofs.Common.{◌≡◌, ℕ, ◌+◌, ◌*◌, ◌-◌, ◌<◌, ◌≤◌, Bool, true, false, List, [], ◌∷◌, ◌++◌, length, Option, Some, None, refl, sym, ap, ◌∙◌, subst, arith, append_assoc}
+use Rattle.std.specs.Prelude.{IfSome}
 use Rattle.std.proofs.lemmas.List.{append-nil, length-append, length-drop}
 use Rattle.bit_grammar.specs.declared.op.Op.{Op}
 use Rattle.bit_grammar.specs.declared.op.Op.TheVariants.{Vbr}
 use Rattle.bit_grammar.specs.Bits.{bits_of}
 use Rattle.bit_grammar.specs.Blocks.{entry}
+use Rattle.bit_grammar.specs.Fields.{vbr}
 use Rattle.bit_grammar.specs.FormatFields.{shortest}
-use Rattle.bit_grammar.specs.Grammar.{Grammar}
+use Rattle.bit_grammar.specs.Grammar.{Grammar, repeat}
 use Rattle.bit_grammar.specs.Normal.{entry_text, values_bits}
 use Rattle.bit_grammar.specs.Record.{scalar, unabbreviated}
 use Rattle.bit_grammar.specs.Terms.{CodeAndValues}
@@ -64,7 +66,7 @@ word_stored count word len here old next new has is puts = record {
   len = len;
   there = has.there;
   is = is;
-  reads = rw is has.reads;
+  reads = subst (Reads (repeat count (vbr 6)) (placed here.bits) has.values) (sym is) has.reads;
   stores = λ first from code many done was. stored_then first from code many done has.values old here.at new next.at was (puts_as (bits_of len word) (values_bits has.values) here.at next.at old new has.spelled puts);
 }
 
@@ -154,3 +156,9 @@ walks_untold keeps last rule next walked walks = record {
   reads = walks.reads;
   kept = walks.kept;
 }
+
+-- by the definitions in force
+pub walks_known : (result : Option Walked) (keeps : (code : ℕ) → (values : List ℕ) → List ℕ → (to : ℕ) → Type 0) (last : List ℕ) (room first id : ℕ) (all definitions : List (List Op)) (next : Coming) → all ≡ definitions → IfSome result (Walks true keeps last (entry room first id all) next) → IfSome result (Walks false keeps last (entry room first id definitions) next)
+walks_known None keeps last room first id all definitions next same walks = tt
+walks_known (Some walked) keeps last room first id all definitions next same walks =
+    walks_untold keeps last (entry room first id definitions) next walked (subst (λ (some : List (List Op)). Walks true keeps last (entry room first id some) next walked) same walks)

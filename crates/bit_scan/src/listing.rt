@@ -269,6 +269,9 @@ impl<'a, K: Sink> RunCounter for ListingWriter<'a, K> {
         if !self.standing.leaves_record(record.code) {
             return Ok(true);
         }
+        if values.len() > BATCH {
+            return Ok(false);
+        }
         match self.printer.record_line(self.around, record.code, values) {
             Ok(is_added) => Ok(is_added),
             Err(fault) => {

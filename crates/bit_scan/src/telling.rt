@@ -20,6 +20,7 @@ use crate::format::{EventStyle, Format};
 use crate::listing::{around_after, few_of, kept, write_values};
 use crate::printer::Printer;
 use crate::record_lines::{Noted, Opened};
+use crate::text_buffer::BATCH;
 use bit_abbrev::{Abbrev, BlockDefinitions, Coming, HeldOps};
 use bit_events::{CountedRecord, Event, Gatherer, PackedEvent, PackedEvents, PassedRun, RunCounter, list_records};
 use bit_fields::{Fault, Head, Limits, PackedValues, Reason, Sink, Source, WideSlice};
@@ -648,11 +649,14 @@ impl<K: Sink> RunCounter for EventWriter<K> {
 
     #[inline(always)]
     fn count(&mut self, record: CountedRecord, values: &[u64]) -> Result<bool, AllocError> {
+        if values.len() > BATCH {
+            return Ok(false);
+        }
         let noted = Noted {
             first: record.first,
             code: record.code,
             abbreviation: record.id as u32,
-            count: record.count,
+            count: values.len() as u64,
         };
         match write_few(&mut self.printer, self.around, noted, values, self.style) {
             Ok(is_added) => Ok(is_added),
