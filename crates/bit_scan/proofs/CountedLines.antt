@@ -5,8 +5,9 @@ use Rattle.bit_grammar.specs.Machine.{Event, notes}
 use Rattle.bit_grammar.specs.Marks.{RecordMark}
 use Rattle.bit_events.specs.declared.passing.CountedRecord.{CountedRecord}
 use Rattle.bit_events.specs.Gathering.{left_open, Gathers}
-use Rattle.bit_events.specs.Passing.{CountsOne, GathersRecords, IsMarkOf}
+use Rattle.bit_events.specs.Passing.{CountsAll, CountsOne, GathersRecords, IsMarkOf}
 use Rattle.bit_events.proofs.Folds.{open_behind-push}
+use Rattle.bit_events.proofs.PassedOver.{none_gathered}
 
 still_open : (events : List Event) (mark : RecordMark) → 0 < left_open events → 0 < left_open (events ++ notes mark ∷ [])
 still_open events mark some = omega (arith, some, open_behind-push events (notes mark) 0)
@@ -40,3 +41,7 @@ told_whole passed shown mark is = rw (← is.abbreviation, ← is.code refl, ←
 pub counts_told : {G : Type 0} (gathered : G → List Event → G → Type 0) (old new : G) (passed : CountedRecord) (shown : List ℕ) → Gathers gathered old (notes (mark_of passed shown)) new → (mark : RecordMark) → IsMarkOf true true passed shown mark → CountsOne (GathersRecords gathered) old mark new
 counts_told gathered old new passed shown gathers mark told =
     subst (λ (m : RecordMark). CountsOne (GathersRecords gathered) old m new) (told_whole passed shown mark told) (counts_gathered gathered old (mark_of passed shown) new gathers)
+
+-- what was counted was gathered
+pub gathered_first : {G : Type 0} (gathered : G → List Event → G → Type 0) (old new : G) (records : List RecordMark) → CountsAll (GathersRecords gathered) old records new → GathersRecords gathered old records new
+gathered_first gathered old new records counts = counts old [] (none_gathered gathered old)
