@@ -427,12 +427,12 @@ impl<'a> Comparer<'a> {
     ) -> Result<PassedRun, AllocError>
         requires stands { StandsFor definitions.old }
         requires width { next.width ≤ 32 }
+        requires found { self.old.compared.found ≡ None }
+        requires some { 0 < self.old.passed_to }
         ensures same_reference { definitions.new.definitions.ghost_name ≡ definitions.old.definitions.ghost_name }
         ensures marks { definitions.new.marks ≡ definitions.old.marks }
         ensures keeps { KeepsBlock definitions.old.marks definitions.old.definitions.now
             definitions.new.definitions.now }
-        requires found { self.old.compared.found ≡ None }
-        requires some { 0 < self.old.passed_to }
         ensures passes { IfOk result (λ run. PassesRun Matches (all_of_block definitions.old) next.entry self.old run
             self.new) }
     {
