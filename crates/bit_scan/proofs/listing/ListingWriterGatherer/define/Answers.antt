@@ -1,6 +1,13 @@
+use Rattle.std.proofs.Common.{Ok, refl}
 use Rattle.bit_grammar.specs.Machine.{defines}
-use Rattle.bit_scan.proofs.Lists.{wrote_line}
+use Rattle.bit_grammar.specs.Marks.{DefinitionMark}
+use Rattle.bit_abbrev.specs.HeldPlaces.{ops_of}
+use Rattle.bit_scan.proofs.Lists.{no_line, wrote_line}
 use Rattle.bit_scan.proofs.listing.ListingWriterGatherer.define.Goals as goal
 
 pub returns-clause-gathers : goal.returns-clause-gathers
-returns-clause-gathers g c = wrote_line (λ w. w.standing) (λ w. w.around) (λ w. w.printer) (λ w. w.stopped) c.args.self.now c.write.new.self (defines (record { ops = c.args.«abbrev».now; first = c.args.first; after = c.args.after })) c.write.result c.write.ensures.written c.write.ensures.stopped c.write.ensures.stands c.write.ensures.around
+returns-clause-gathers g c =
+    let old = c.args.self.now in
+    let mark : DefinitionMark = record { ops = ops_of c.args._ops.places.now; first = c.args._first; after = c.args._after } in
+    let none = no_line old.standing old.around mark old.printer in
+    wrote_line (λ w. w.standing) (λ w. w.around) (λ w. w.printer) (λ w. w.stopped) old old (defines mark) (Ok tt) none.0 refl refl none.1
