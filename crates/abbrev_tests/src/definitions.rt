@@ -1,6 +1,7 @@
 //! Definitions: which are lawful, how they are laid out, and which are in force.
 
-use bit_abbrev::{Abbrev, InForce, InfoBuilder, InfoTable, Layout, Op, SharedInfo};
+use crate::spelled::{By, define, literal};
+use bit_abbrev::{Abbrev, Definitions, InfoTable, Marks, Op};
 use bit_grammar::Reason;
 use smallvec::SmallVec;
 use std::alloc::{AllocError, Global};
@@ -88,7 +89,7 @@ fn unlawful_lists_come_back(rt: HostRuntime) -> Result<(), Fail> {
 }
 
 /// The definition with these operands.
-pub(crate) fn abbrev(alloc: Global, ops: &[Op]) -> Result<Abbrev, Fail> {
+fn abbrev(alloc: Global, ops: &[Op]) -> Result<Abbrev, Fail> {
     match Abbrev::new(SmallVec::from_slice(alloc, ops)?) {
         Ok(made) => Ok(made),
         Err(_) => Err("it is lawful".into()),
@@ -112,41 +113,42 @@ fn lawful_lists_are_kept_and_copied(rt: HostRuntime) -> Result<(), Fail> {
 /// Operands that each stand for one value.
 static MANY: [Op; 33] = [Op::Literal(1); 33];
 
-/// The layout of a definition and that of its copy, if they are the same.
-fn layout_of(alloc: Global, ops: &[Op]) -> Result<Option<Layout>, Fail> {
-    let made = abbrev(alloc, ops)?;
-    let layout = made.copy(alloc)?.layout();
-    Ok(if made.layout() == layout {
-        Some(layout)
-    } else {
-        None
-    })
+/// Whether records of a definition are walked over.
+fn is_even(alloc: Global, ops: &[Op], by: By) -> Result<bool, Fail> {
+    let mut definitions = Definitions::new(alloc);
+    let marks = definitions.enter(Marks::none(), 8);
+    define(alloc, &mut definitions, None, ops, by)?;
+    match definitions.in_force(marks).head(0) {
+        Some(head) => Ok(head.is_even()),
+        None => Err("it is there".into()),
+    }
 }
 
 #[test]
 fn lists_have_their_layout(rt: HostRuntime) -> Result<(), Fail> {
-    let layouts: [(&[Op], Layout); 11] = [
-        (&[Op::Literal(1)], Layout::Singles),
+    let layouts: [(&[Op], bool); 11] = [
+        (&[Op::Literal(1)], true),
         (
             &[Op::Literal(1), Op::Vbr(6), Op::Fixed(1), Op::Char6],
-            Layout::Singles,
+            true,
         ),
-        (&MANY[..32], Layout::Singles),
-        (&MANY, Layout::Odd),
-        (&[Op::Fixed(1), Op::Vbr(6)], Layout::Coded),
-        (&[Op::Literal(1), Op::Array, Op::Vbr(6)], Layout::List),
+        (&MANY[..32], true),
+        (&MANY, false),
+        (&[Op::Fixed(1), Op::Vbr(6)], true),
+        (&[Op::Literal(1), Op::Array, Op::Vbr(6)], true),
         (
             &[Op::Literal(1), Op::Vbr(6), Op::Array, Op::Char6],
-            Layout::List,
+            true,
         ),
-        (&[Op::Fixed(1), Op::Array, Op::Vbr(6)], Layout::List),
-        (&[Op::Literal(1), Op::Vbr(0)], Layout::Odd),
-        (&[Op::Literal(1), Op::Array, Op::Vbr(0)], Layout::Odd),
-        (&[Op::Literal(1), Op::Blob], Layout::Odd),
+        (&[Op::Fixed(1), Op::Array, Op::Vbr(6)], true),
+        (&[Op::Literal(1), Op::Vbr(0)], false),
+        (&[Op::Literal(1), Op::Array, Op::Vbr(0)], false),
+        (&[Op::Literal(1), Op::Blob], false),
     ];
-    for (ops, layout) in &layouts {
-        let given = layout_of(rt.alloc(), ops)?;
-        assert!(rt; given == Some(*layout), "{ops:?}");
+    for (ops, even) in &layouts {
+        let read = is_even(rt.alloc(), ops, By::Reader)?;
+        let placed = is_even(rt.alloc(), ops, By::Place)?;
+        assert!(rt; read == *even && placed == *even, "{ops:?}");
     }
     Ok(())
 }
@@ -168,7 +170,7 @@ fn constant(alloc: Global, value: u64) -> Result<Abbrev, Fail> {
 }
 
 /// The literal with which a definition begins; 0 for no definition, and the greatest number for one that begins otherwise.
-pub(crate) fn literal(definition: Option<&Abbrev>) -> u64 {
+fn first_literal(definition: Option<&Abbrev>) -> u64 {
     match definition.map(Abbrev::ops) {
         None => 0,
         Some([Op::Literal(value), ..]) if *value > 0 => *value,
@@ -181,13 +183,13 @@ fn literals_of(table: &InfoTable, id: u32) -> [u64; 5] {
     let definitions = table.for_block(id);
     let mut values = [0; 5];
     for (index, value) in values.iter_mut().enumerate() {
-        *value = literal(definitions.get(index));
+        *value = first_literal(definitions.get(index));
     }
     values
 }
 
 /// Defines a literal. If an allocation fails, the others stay.
-fn define(
+fn define_in(
     rt: &impl Abort,
     alloc: Global,
     table: &mut InfoTable,
@@ -216,7 +218,7 @@ fn four_ids(table: &InfoTable) -> [[u64; 5]; 4] {
 /// Defines five literals for three ids, in turn.
 fn define_five(rt: &impl Abort, alloc: Global, table: &mut InfoTable) -> Result<(), Fail> {
     for (id, value) in [(8, 1), (0, 2), (8, 3), (u32::MAX, 4), (8, 5)] {
-        define(rt, alloc, table, id, value)?;
+        define_in(rt, alloc, table, id, value)?;
     }
     Ok(())
 }
@@ -238,127 +240,112 @@ fn the_table_keeps_the_order_of_each_id(rt: HostRuntime) -> Result<(), Fail> {
     Ok(())
 }
 
-/// The literals of the definitions in force with zeros after them, and that of the last one which the block added.
-fn in_force(definitions: &InForce) -> ([u64; 9], u64) {
+/// The literals of the definitions in force, with zeros after them.
+fn in_force(definitions: &Definitions, marks: Marks) -> [u64; 9] {
+    let all = definitions.in_force(marks);
     let mut values = [0; 9];
-    for (index, value) in values.iter_mut().enumerate() {
-        *value = literal(definitions.get(index));
+    let mut index = 0u32;
+    for value in &mut values {
+        *value = literal(&all, index);
+        index = index.saturating_add(1);
     }
-    (values, literal(definitions.newest_ready()))
+    values
 }
 
-/// Adds a definition to a table.
-pub(crate) fn put(alloc: Global, table: &mut InfoBuilder, id: u32, value: u64) -> Result<(), Fail> {
-    table.define(id, constant(alloc, value)?)?;
-    Ok(())
-}
-
-/// A table that has these literals for this id.
-fn table_of(alloc: Global, id: u32, values: &[u64]) -> Result<InfoBuilder, Fail> {
-    let mut table = InfoBuilder::new(alloc);
-    for value in values {
-        put(alloc, &mut table, id, *value)?;
-    }
-    Ok(table)
-}
-
-fn shared_of(alloc: Global, id: u32, values: &[u64]) -> Result<SharedInfo, Fail> {
-    let table = table_of(alloc, id, values)?;
-    Ok(SharedInfo::share(alloc, table)?)
-}
-
-/// Adds a definition to a block.
-pub(crate) fn add(alloc: Global, definitions: &mut InForce, value: u64) -> Result<(), Fail> {
-    definitions.define(constant(alloc, value)?)?;
-    Ok(())
-}
-
-/// Enters a block, and adds these definitions.
-fn begun(alloc: Global, shared: &SharedInfo, id: u32, values: &[u64]) -> Result<InForce, Fail> {
-    let mut definitions = shared.enter(alloc, id)?;
-    for value in values {
-        add(alloc, &mut definitions, *value)?;
-    }
-    Ok(definitions)
-}
-
-/// Blocks that are open at the same time: their ids, and the literals that each adds.
-static OPEN: [(u32, &[u64]); 3] = [(8, &[3]), (8, &[]), (9, &[])];
-
-fn all_begun(alloc: Global, shared: &SharedInfo) -> Result<Vec<InForce>, Fail> {
-    let mut blocks = Vec::new(alloc);
-    for (id, values) in &OPEN {
-        blocks.push(begun(alloc, shared, *id, values)?)?;
-    }
-    Ok(blocks)
-}
-
-/// The open blocks, after another table has replaced theirs.
-fn open_blocks(alloc: Global, shared: &mut SharedInfo) -> Result<Vec<InForce>, Fail> {
-    let blocks = all_begun(alloc, shared)?;
-    *shared = shared_of(alloc, 9, &[4])?;
-    Ok(blocks)
-}
-
-/// The definitions in force where a block begins.
-fn in_force_at(alloc: Global, shared: &SharedInfo, id: u32) -> Result<([u64; 9], u64), Fail> {
-    let definitions = shared.enter(alloc, id)?;
-    Ok(in_force(&definitions))
-}
-
-/// The same of a block 8 and a block 9.
-fn in_force_at_two(alloc: Global, shared: &SharedInfo) -> Result<[([u64; 9], u64); 2], Fail> {
-    Ok([
-        in_force_at(alloc, shared, 8)?,
-        in_force_at(alloc, shared, 9)?,
-    ])
-}
-
-/// The definitions in force in three blocks.
-fn in_three(blocks: &[InForce]) -> Option<[([u64; 9], u64); 3]> {
-    match blocks {
-        [outer, inner, other] => Some([in_force(outer), in_force(inner), in_force(other)]),
-        _ => None,
+/// The literal of the last definition that the innermost block made, or that a BLOCKINFO block made; 0 if there is none.
+fn newest(alloc: Global, definitions: &Definitions, described: bool) -> Result<u64, Fail> {
+    match definitions.newest(described) {
+        Some(held) => Ok(first_literal(Some(&Abbrev::of_held(alloc, held)?))),
+        None => Ok(0),
     }
 }
 
-/// The definitions in force in blocks whose table was replaced, after one more definition in the outer one; and in blocks that are
-/// entered then.
-fn in_force_after(
+/// Adds definitions of one literal each, the first one by a reader, the next one in place, and so on.
+fn add_all(
     alloc: Global,
-) -> Result<(Option<[([u64; 9], u64); 3]>, [([u64; 9], u64); 2]), Fail> {
-    let mut shared = shared_of(alloc, 8, &[1, 2])?;
-    let mut blocks = open_blocks(alloc, &mut shared)?;
-    if let Some(outer) = blocks.first_mut() {
-        add(alloc, outer, 5)?;
+    definitions: &mut Definitions,
+    described: Option<u32>,
+    values: &[u64],
+) -> Result<(), Fail> {
+    for value in values {
+        let by = if value % 2 == 1 { By::Reader } else { By::Place };
+        define(alloc, definitions, described, &[Op::Literal(*value)], by)?;
     }
-    let later = in_force_at_two(alloc, &shared)?;
-    Ok((in_three(&blocks), later))
+    Ok(())
 }
 
-static KEPT: [([u64; 9], u64); 3] = [
-    ([1, 2, 3, 5, 0, 0, 0, 0, 0], 5),
-    ([1, 2, 0, 0, 0, 0, 0, 0, 0], 0),
-    ([0, 0, 0, 0, 0, 0, 0, 0, 0], 0),
+/// Makes a table with these literals for this id that of later blocks. The block around has these marks.
+fn share(
+    alloc: Global,
+    definitions: &mut Definitions,
+    outer: Marks,
+    id: u32,
+    values: &[u64],
+) -> Result<(), Fail> {
+    add_all(alloc, definitions, Some(id), values)?;
+    definitions.share(outer)?;
+    Ok(())
+}
+
+/// The definitions in force where a block 8 and a block 9 begin.
+fn at_two(definitions: &Definitions, outer: Marks) -> [[u64; 9]; 2] {
+    [
+        in_force(definitions, definitions.enter(outer, 8)),
+        in_force(definitions, definitions.enter(outer, 9)),
+    ]
+}
+
+/// The definitions in force in three blocks within each other, the innermost first, of which the table is replaced when all are open. The
+/// outer one adds a definition before it, and one when the others have ended; and those of later blocks before and after.
+fn in_force_after(alloc: Global) -> Result<([[u64; 9]; 4], [[u64; 9]; 4]), Fail> {
+    let mut definitions = Definitions::new(alloc);
+    share(alloc, &mut definitions, Marks::none(), 8, &[1, 2])?;
+    let outer = definitions.enter(Marks::none(), 8);
+    add_all(alloc, &mut definitions, None, &[3])?;
+    let inner = definitions.enter(outer, 8);
+    let other = definitions.enter(inner, 9);
+    let before = at_two(&definitions, other);
+    share(alloc, &mut definitions, other, 9, &[4])?;
+    let first = in_force(&definitions, other);
+    let later = at_two(&definitions, other);
+    definitions.leave(other);
+    let second = in_force(&definitions, inner);
+    definitions.leave(inner);
+    let third = in_force(&definitions, outer);
+    add_all(alloc, &mut definitions, None, &[5])?;
+    let last = in_force(&definitions, outer);
+    let told = [first, second, third, last];
+    Ok((told, [before[0], before[1], later[0], later[1]]))
+}
+
+static KEPT: [[u64; 9]; 4] = [
+    [0, 0, 0, 0, 0, 0, 0, 0, 0],
+    [1, 2, 0, 0, 0, 0, 0, 0, 0],
+    [1, 2, 3, 0, 0, 0, 0, 0, 0],
+    [1, 2, 3, 5, 0, 0, 0, 0, 0],
 ];
 
-static LATER: [([u64; 9], u64); 2] = [
-    ([0, 0, 0, 0, 0, 0, 0, 0, 0], 0),
-    ([4, 0, 0, 0, 0, 0, 0, 0, 0], 0),
+static LATER: [[u64; 9]; 4] = [
+    [1, 2, 0, 0, 0, 0, 0, 0, 0],
+    [0, 0, 0, 0, 0, 0, 0, 0, 0],
+    [0, 0, 0, 0, 0, 0, 0, 0, 0],
+    [4, 0, 0, 0, 0, 0, 0, 0, 0],
 ];
 
 #[test]
 fn open_blocks_keep_what_they_had(rt: HostRuntime) -> Result<(), Fail> {
     let (told, later) = in_force_after(rt.alloc())?;
-    assert!(rt; told == Some(KEPT) && later == LATER);
+    assert!(rt; told == KEPT && later == LATER);
     Ok(())
 }
 
 #[test]
 fn nothing_is_in_force_at_first(rt: HostRuntime) -> Result<(), Fail> {
-    let shared = SharedInfo::new();
-    let told = in_force_at(rt.alloc(), &shared, 8)?;
-    assert!(rt; told == ([0; 9], 0));
+    let definitions = Definitions::new(rt.alloc());
+    let told = at_two(&definitions, Marks::none());
+    let own = newest(rt.alloc(), &definitions, false)?;
+    let described = newest(rt.alloc(), &definitions, true)?;
+    assert!(rt; told == [[0; 9]; 2] && own == 0 && described == 0);
     Ok(())
 }
 
@@ -366,22 +353,25 @@ fn nothing_is_in_force_at_first(rt: HostRuntime) -> Result<(), Fail> {
 fn add_or_keep(
     rt: &impl Abort,
     alloc: Global,
-    definitions: &mut InForce,
+    definitions: &mut Definitions,
+    marks: Marks,
     value: u64,
 ) -> Result<(), Fail> {
-    let before = in_force(definitions);
-    let answer = add(alloc, definitions, value);
-    assert!(rt; answer.is_ok() || in_force(definitions) == before);
+    let before = in_force(definitions, marks);
+    let answer = add_all(alloc, definitions, None, &[value]);
+    assert!(rt; answer.is_ok() || in_force(definitions, marks) == before);
     answer
 }
 
 #[test]
 fn a_refused_definition_leaves_the_others(rt: HostRuntime) -> Result<(), Fail> {
-    let mut definitions = InForce::new(rt.alloc());
+    let mut definitions = Definitions::new(rt.alloc());
+    let marks = definitions.enter(Marks::none(), 8);
     for value in 1..9 {
-        add_or_keep(&rt, rt.alloc(), &mut definitions, value)?;
+        add_or_keep(&rt, rt.alloc(), &mut definitions, marks, value)?;
     }
-    let told = in_force(&definitions);
-    assert!(rt; told == ([1, 2, 3, 4, 5, 6, 7, 8, 0], 8));
+    let told = in_force(&definitions, marks);
+    let last = newest(rt.alloc(), &definitions, false)?;
+    assert!(rt; told == [1, 2, 3, 4, 5, 6, 7, 8, 0] && last == 8);
     Ok(())
 }

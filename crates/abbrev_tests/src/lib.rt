@@ -9,3 +9,5 @@ mod held;
 mod plans;
 #[cfg(test)]
 mod reading;
+#[cfg(test)]
+mod spelled;

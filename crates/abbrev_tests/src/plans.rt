@@ -1,15 +1,11 @@
-//! Records that are passed over by plans, and the same records read field by field.
+//! Records that are passed over by plans or walked over by their operands, and the same records read field by field.
 
-ghost use Rattle.std.specs.Prelude.{◌≤◌, length, IfSome};
-ghost use Rattle.bit_fields.specs.BufferedParts.{AreParts};
-ghost use Rattle.bit_fields.specs.PlacedView.{loaded};
-
-use bit_abbrev::{Abbrev, MARGIN, Op, Passed, pass_plain, read_plain, read_record};
-use bit_fields::{
-    BitReader, Buffered, BufferedParts, Limits, LoadedBits, PlacedBits, SliceSource, ValueCount,
-    ValueTaker,
+use crate::spelled::{By, define};
+use bit_abbrev::{
+    Begun, BlockDefinitions, Coming, Counting, Definitions, InForce, Listing, MARGIN, Marks, Op, Planned,
+    Visitor, read_record, take_record,
 };
-use smallvec::SmallVec;
+use bit_fields::{BitReader, Limits, PlacedBits, SliceSource, ValueCount, ValueTaker};
 use std::alloc::Global;
 use std::process::Abort;
 use std::test::Fail;
@@ -34,26 +30,126 @@ pub(crate) fn made(seed: u64) -> [u8; 700] {
     bytes
 }
 
-/// The bits behind the first ones of an input, buffered and loaded.
-fn behind<'a>(parts: BufferedParts<'a>, skipped: u64) -> Option<(Buffered<'a>, LoadedBits<'a>)>
-    requires { AreParts parts }
-    ensures { IfSome result (λ found. 2208 ≤ length (loaded found.1).bits) }
-{
-    let mut buffered = Buffered::new(parts);
-    if buffered.len() < skipped {
+/// How many values a record may have.
+const ROOM: u64 = 1000;
+
+/// What is found of a record: its code, how many values it has, and the bit after it.
+type Found = Option<(u64, u64, u64)>;
+
+/// What comes behind the first bits of an input, with ids of three bits.
+fn coming(bytes: &[u8], skipped: u64) -> Option<Coming<'_>> {
+    if skipped > 8 * (bytes.len() as u64).min(1000) {
         return None;
     }
-    buffered.skip(skipped);
-    let bits = PlacedBits::new(parts, buffered.position())?;
+    let bits = PlacedBits::of(bytes, 0, skipped);
     if !bits.has(MARGIN) {
         return None;
     }
-    Some((buffered, bits.load()))
+    Some(Coming {
+        at: 0,
+        bits,
+        width: 3,
+        room: ROOM,
+    })
 }
 
-/// Whether a record was read as it was passed over: its code, how many values it has, and the bit after it.
-fn same(passed: Passed, code: u64, values: &ValueCount, len: u64) -> bool {
-    (passed.code, passed.count, passed.len) == (code, values.count(), len)
+/// The record as a reader reads it.
+fn read(bytes: &[u8], skipped: u64, definitions: &InForce<'_>, id: u64) -> Found {
+    let (mut reader, _) = BitReader::start(SliceSource::new(bytes), Limits::usual()).ok()?;
+    while reader.position() < skipped + 3 {
+        let _bit = reader.fixed(1).ok()?;
+    }
+    let first = reader.position();
+    let mut values = ValueCount::new();
+    let begun = Begun { id, first };
+    let code = read_record(&mut reader, definitions, begun, ROOM, &mut values).ok()?;
+    Some((code, values.count(), reader.position()))
+}
+
+/// The record as it is taken in place.
+fn taken(next: Coming<'_>, definitions: &InForce<'_>, id: u64) -> Found {
+    let mut values = ValueCount::new();
+    let taken = take_record(next.fields(), definitions, id, ROOM, &mut values)?;
+    Some((taken.code, values.count(), taken.after))
+}
+
+/// The record as it is passed over by the plan of its definition.
+fn passed(next: Coming<'_>, definitions: &BlockDefinitions<'_>, id: u64) -> Found {
+    let by = Planned {
+        plans: definitions.plans(),
+    };
+    let mut none = [0; 1];
+    let walked = if id == 3 {
+        by.plain(&mut none, next)?
+    } else {
+        by.abbreviated(&mut none, next, id)?
+    };
+    let after = next.fields().position().saturating_add(walked.len);
+    Some((walked.code, walked.count, after))
+}
+
+/// The record as it is walked over, and counted.
+fn counted(next: Coming<'_>, definitions: &InForce<'_>, id: u64) -> Found {
+    let by = Counting { definitions };
+    let mut none = [0; 1];
+    let walked = if id == 3 {
+        by.plain(&mut none, next)?
+    } else {
+        by.abbreviated(&mut none, next, id)?
+    };
+    let after = next.fields().position().saturating_add(walked.len);
+    Some((walked.code, walked.count, after))
+}
+
+/// The record as it is walked over, if it has at most 64 values.
+fn listed(next: Coming<'_>, definitions: &InForce<'_>, id: u64) -> Found {
+    let by = Listing { definitions };
+    let mut list = [0; 64];
+    let walked = if id == 3 {
+        by.plain(&mut list, next)?
+    } else {
+        by.abbreviated(&mut list, next, id)?
+    };
+    let after = next.fields().position().saturating_add(walked.len);
+    Some((walked.code, walked.count, after))
+}
+
+/// Whether a record behind the first bits of an input is passed over. It is then found as it is read, and what is taken or walked over in
+/// another way is, too.
+fn is_passed(
+    rt: &impl Abort,
+    definitions: &BlockDefinitions<'_>,
+    bytes: &[u8],
+    skipped: u64,
+    id: u64,
+) -> bool {
+    let next = coming(bytes, skipped).expect(rt, "bits enough");
+    let all = definitions.in_force();
+    let wanted = read(bytes, skipped, &all, id);
+    let found = passed(next, definitions, id);
+    for other in [
+        found,
+        taken(next, &all, id),
+        counted(next, &all, id),
+        listed(next, &all, id),
+    ] {
+        assert!(rt; other.is_none() || other == wanted, "{skipped}");
+    }
+    found.is_some()
+}
+
+/// How many records with this id are passed over in some inputs.
+fn count_passed(rt: &impl Abort, definitions: &BlockDefinitions<'_>, id: u64) -> u64 {
+    let mut passed: u64 = 0;
+    for seed in 0..40 {
+        let bytes = made(seed);
+        for skipped in 67..107 {
+            if is_passed(rt, definitions, &bytes, skipped, id) {
+                passed = passed.wrapping_add(1);
+            }
+        }
+    }
+    passed
 }
 
 /// The operands of some definitions: fields of each kind, numbers that share a pass and numbers that do not, and arrays of each
@@ -107,93 +203,21 @@ static DEFINITIONS: [&[Op]; 11] = [
     ],
 ];
 
-/// A definition with a plan.
-fn planned(alloc: Global, ops: &[Op]) -> Result<Abbrev, Fail> {
-    let Ok(abbrev) = Abbrev::new(SmallVec::from_slice(alloc, ops)?) else {
-        return Err("it is lawful".into());
-    };
-    Ok(abbrev.planned())
-}
-
-/// Whether the record by a definition at a bit of an input is passed over by its plan. It is then passed over as it is read.
-fn is_passed(rt: &impl Abort, abbrev: &Abbrev, bytes: &[u8], skipped: u64) -> bool {
-    let Ok((mut reader, _)) = BitReader::start(SliceSource::new(bytes), Limits::usual()) else {
-        return false;
-    };
-    if !abbrev.is_usable() {
-        return false;
-    }
-    let parts = reader.buffered_parts().ok().expect(rt, "a live reader");
-    let (mut buffered, fields) = behind(parts, skipped).expect(rt, "bits enough");
-    let Some(passed) = abbrev.plan().pass(fields, 1000) else {
-        return false;
-    };
-    let first = buffered.position();
-    let mut values = ValueCount::new();
-    let read = read_record::<(), Buffered, ValueCount>(
-        &mut buffered,
-        abbrev,
-        first,
-        1000,
-        &mut values,
-    );
-    let code = read.ok().expect(rt, "a record");
-    assert!(rt;
-        same(
-            passed,
-            code,
-            &values,
-            buffered.position().wrapping_sub(first)
-        ),
-        "{skipped}"
-    );
-    true
-}
-
-/// The same of a record that is not abbreviated.
-fn is_plain_passed(rt: &impl Abort, bytes: &[u8], skipped: u64) -> bool {
-    let Ok((mut reader, _)) = BitReader::start(SliceSource::new(bytes), Limits::usual()) else {
-        return false;
-    };
-    let parts = reader.buffered_parts().ok().expect(rt, "a live reader");
-    let (mut buffered, fields) = behind(parts, skipped).expect(rt, "bits enough");
-    let Some(passed) = pass_plain(fields) else {
-        return false;
-    };
-    let first = buffered.position();
-    let mut values = ValueCount::new();
-    let read = read_plain::<(), Buffered, ValueCount>(&mut buffered, 100_000, &mut values);
-    let code = read.ok().expect(rt, "a record");
-    assert!(rt;
-        same(
-            passed,
-            code,
-            &values,
-            buffered.position().wrapping_sub(first)
-        ),
-        "{skipped}"
-    );
-    true
-}
-
-/// How many records by such a definition are passed over in some inputs.
-fn count_passed(rt: &impl Abort, abbrev: &Abbrev) -> u64 {
-    let mut passed: u64 = 0;
-    for seed in 0..40 {
-        let bytes = made(seed);
-        for skipped in 70..110 {
-            if is_passed(rt, abbrev, &bytes, skipped) {
-                passed = passed.wrapping_add(1);
-            }
-        }
-    }
-    passed
+/// How many records by a definition with these operands are passed over.
+fn count_planned(rt: &impl Abort, alloc: Global, ops: &[Op]) -> Result<u64, Fail> {
+    let mut definitions = Definitions::new(alloc);
+    let marks = definitions.enter(Marks::none(), 8);
+    define(alloc, &mut definitions, None, ops, By::Reader)?;
+    let mut block = BlockDefinitions::of(&mut definitions, marks);
+    let is_planned = block.plan(0)?;
+    assert!(rt; is_planned && !block.plan(0)? && !block.plan(1)?);
+    Ok(count_passed(rt, &block, 4))
 }
 
 #[test]
 fn records_are_passed_as_they_are_read(rt: HostRuntime) -> Result<(), Fail> {
     for ops in &DEFINITIONS {
-        let passed = count_passed(&rt, &planned(rt.alloc(), ops)?);
+        let passed = count_planned(&rt, rt.alloc(), ops)?;
         assert!(rt; passed > 100, "{ops:?}: {passed}");
     }
     Ok(())
@@ -201,14 +225,9 @@ fn records_are_passed_as_they_are_read(rt: HostRuntime) -> Result<(), Fail> {
 
 #[test]
 fn plain_records_are_passed_as_they_are_read(rt: HostRuntime) {
-    let mut passed: u64 = 0;
-    for seed in 0..40 {
-        let bytes = made(seed);
-        for skipped in 70..110 {
-            if is_plain_passed(&rt, &bytes, skipped) {
-                passed = passed.wrapping_add(1);
-            }
-        }
-    }
+    let mut definitions = Definitions::new(rt.alloc());
+    let marks = definitions.enter(Marks::none(), 8);
+    let block = BlockDefinitions::of(&mut definitions, marks);
+    let passed = count_passed(&rt, &block, 3);
     assert!(rt; passed > 100, "{passed}");
 }

@@ -1,6 +1,8 @@
 //! Definitions and records that are read.
 
-use bit_abbrev::{Abbrev, read_abbreviated, read_define, read_plain};
+use bit_abbrev::{
+    Abbrev, Begun, Definitions, Marks, read_abbreviated, read_define, read_record,
+};
 use bit_fields::{
     BitReader, Fault, Limits, ReadSource, Reason, Shapes, SliceSource, Source, ValueCount,
     ValueTaker,
@@ -211,6 +213,7 @@ fn records(rt: HostRuntime) -> Result<(), Fail> {
 
 /// Reads a record 5 that is not abbreviated, with the values 1, 40 and 2: its code and the bit after it.
 fn plain_record<V: ValueTaker>(
+    alloc: Global,
     bytes: &[u8],
     room: u64,
     values: &mut V,
@@ -220,7 +223,19 @@ fn plain_record<V: ValueTaker>(
         Err((fault, _)) => return Err(fault),
     };
     open_block(&mut reader)?;
-    let code = read_plain::<(), BitReader<SliceSource<'_>>, V>(&mut reader, room, values)?;
+    let definitions = Definitions::new(alloc);
+    let marks = definitions.enter(Marks::none(), 8);
+    let begun = Begun {
+        id: 3,
+        first: reader.position(),
+    };
+    let code = read_record(
+        &mut reader,
+        &definitions.in_force(marks),
+        begun,
+        room,
+        values,
+    )?;
     Ok((code, reader.position()))
 }
 
@@ -230,8 +245,8 @@ fn plain_records(rt: HostRuntime) -> Result<(), Fail> {
     for room in 0..5 {
         let mut kept = Vec::new(rt.alloc());
         let mut counted = ValueCount::new();
-        let answer = plain_record(&bytes, room, &mut kept);
-        let both = answer == plain_record(&bytes, room, &mut counted);
+        let answer = plain_record(rt.alloc(), &bytes, room, &mut kept);
+        let both = answer == plain_record(rt.alloc(), &bytes, room, &mut counted);
         let whole = answer == Ok((5, 135)) && kept.as_slice() == [1, 40, 2].as_slice();
         assert!(rt;
             both && if room < 3 {

@@ -183,7 +183,7 @@ pub(crate) static EVENTS: [(u64, &str, &str); 10] = [
         "M B U",
         "32 Enter { id: 0, width: 2, first: 32, body: 96 } \
         Record { abbrev: 3, code: 1, values: [8], first: 96, after: 116 } \
-        Define { abbrev: Abbrev { ops: [Literal(1), Fixed(7)], usable: true, tail: Nothing }, first: 116, after: 141 } Leave { after: 160 } \
+        Define { abbrev: Abbrev { ops: [Literal(1), Fixed(7)], usable: true }, first: 116, after: 141 } Leave { after: 160 } \
         Enter { id: 8, width: 3, first: 160, body: 224 } \
         Record { abbrev: 4, code: 1, values: [100], first: 224, after: 234 } Leave { after: 256 } None None ",
     ),
@@ -239,15 +239,15 @@ pub(crate) static AT_USE: [(&str, &str); 2] = [
     (
         "M 21 0C 00 00 03 00 00 00 22 03 4C 8E 1C 89 01 72 4A 06 00 00",
         "32 Enter { id: 8, width: 3, first: 32, body: 96 } \
-        Define { abbrev: Abbrev { ops: [Literal(1), Array, Fixed(7), Fixed(7)], usable: false, tail: Nothing }, first: 96, after: 135 } \
-        Define { abbrev: Abbrev { ops: [Literal(1), Fixed(7)], usable: true, tail: Nothing }, first: 135, after: 161 } \
+        Define { abbrev: Abbrev { ops: [Literal(1), Array, Fixed(7), Fixed(7)], usable: false }, first: 96, after: 135 } \
+        Define { abbrev: Abbrev { ops: [Literal(1), Fixed(7)], usable: true }, first: 135, after: 161 } \
         Record { abbrev: 5, code: 1, values: [100], first: 161, after: 171 } Leave { after: 192 } None None ",
     ),
     // it is used
     (
         "M 21 0C 00 00 03 00 00 00 22 03 4C 8E 1C 02 00 00 00 00 00 00",
         "32 Enter { id: 8, width: 3, first: 32, body: 96 } \
-        Define { abbrev: Abbrev { ops: [Literal(1), Array, Fixed(7), Fixed(7)], usable: false, tail: Nothing }, first: 96, after: 135 } \
+        Define { abbrev: Abbrev { ops: [Literal(1), Array, Fixed(7), Fixed(7)], usable: false }, first: 96, after: 135 } \
         refused: AbbrevShape at bit 135 used after a fault ",
     ),
 ];
@@ -285,8 +285,8 @@ pub(crate) const MIXED: &str =
 
 /// Its events before the last record.
 pub(crate) const MIXED_FRONT: &str = "32 Enter { id: 8, width: 3, first: 32, body: 96 } \
-    Define { abbrev: Abbrev { ops: [Literal(1), Blob], usable: true, tail: Blob }, first: 96, after: 117 } \
-    Define { abbrev: Abbrev { ops: [Literal(2), Fixed(0)], usable: true, tail: Nothing }, first: 117, after: 143 } \
+    Define { abbrev: Abbrev { ops: [Literal(1), Blob], usable: true }, first: 96, after: 117 } \
+    Define { abbrev: Abbrev { ops: [Literal(2), Fixed(0)], usable: true }, first: 117, after: 143 } \
     Record { abbrev: 4, code: 1, values: [97, 98, 99], first: 143, after: 192 } \
     Record { abbrev: 5, code: 2, values: [0], first: 192, after: 195 } ";
 

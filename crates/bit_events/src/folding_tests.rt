@@ -2,7 +2,7 @@
 
 use crate::events_tests::{agrees, bytes_of, in_pieces, pieces_of, told_of_fault};
 use crate::{Event, Gatherer, PackedEvents, check, fold};
-use bit_abbrev::Abbrev;
+use bit_abbrev::{Abbrev, HeldOps, Ops};
 use bit_fields::{BufSource, Limits, Source};
 use std::alloc::{AllocError, Global};
 use std::fmt::Write;
@@ -24,6 +24,17 @@ impl Text {
     }
 }
 
+/// The definition with these operands, which are lawful.
+fn lawful(alloc: Global, held: HeldOps<'_>) -> Result<Abbrev, AllocError> {
+    let mut ops = Ops::new(alloc);
+    let mut left = held;
+    while let Some((op, rest)) = left.split_first() {
+        ops.push(op)?;
+        left = rest;
+    }
+    Abbrev::new(ops).map_err(|_| AllocError)
+}
+
 impl Gatherer for Text {
     type Values = Vec<u64>;
 
@@ -42,9 +53,10 @@ impl Gatherer for Text {
         })
     }
 
-    fn define(&mut self, abbrev: &Abbrev, first: u64, after: u64) -> Result<(), AllocError> {
+    fn define(&mut self, ops: HeldOps<'_>, first: u64, after: u64) -> Result<(), AllocError> {
+        let abbrev = lawful(self.alloc, ops)?;
         self.add(Event::Define {
-            abbrev,
+            abbrev: &abbrev,
             first,
             after,
         })
@@ -105,7 +117,7 @@ static FOLDED: [(&str, &str, &str); 17] = [
         "accepted",
         "Enter { id: 0, width: 2, first: 32, body: 96 } \
         Record { abbrev: 3, code: 1, values: [8], first: 96, after: 116 } \
-        Define { abbrev: Abbrev { ops: [Literal(1), Fixed(7)], usable: true, tail: Nothing }, first: 116, after: 141 } Leave { after: 160 } \
+        Define { abbrev: Abbrev { ops: [Literal(1), Fixed(7)], usable: true }, first: 116, after: 141 } Leave { after: 160 } \
         Enter { id: 8, width: 3, first: 160, body: 224 } \
         Record { abbrev: 4, code: 1, values: [100], first: 224, after: 234 } Leave { after: 256 } \
         [66, 67, 192, 222] 256",
@@ -186,7 +198,7 @@ static FOLDED: [(&str, &str, &str); 17] = [
         "Enter { id: 8, width: 2, first: 32, body: 96 } Leave { after: 128 } \
         Enter { id: 0, width: 2, first: 128, body: 192 } \
         Record { abbrev: 3, code: 1, values: [8], first: 192, after: 212 } \
-        Define { abbrev: Abbrev { ops: [Literal(1), Fixed(7)], usable: true, tail: Nothing }, first: 212, after: 237 } Leave { after: 256 } \
+        Define { abbrev: Abbrev { ops: [Literal(1), Fixed(7)], usable: true }, first: 212, after: 237 } Leave { after: 256 } \
         Enter { id: 8, width: 3, first: 256, body: 320 } \
         Record { abbrev: 4, code: 1, values: [100], first: 320, after: 330 } Leave { after: 352 } \
         [66, 67, 192, 222] 352",

@@ -16,6 +16,8 @@
 #![tactic(auto)]
 
 mod checking;
+#[cfg(test)]
+mod counting_tests;
 mod event;
 mod events;
 #[cfg(test)]
@@ -30,6 +32,8 @@ mod head;
 mod heads;
 mod lent;
 mod machine;
+#[cfg(test)]
+mod made_inputs;
 mod names;
 mod open_blocks;
 #[cfg(test)]

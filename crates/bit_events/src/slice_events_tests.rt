@@ -3,7 +3,7 @@
 use crate::events_tests::{
     AT_USE, EVENTS, MIXED, MIXED_ENDS, MIXED_FRONT, agrees, bytes_of, told_of_fault,
 };
-use crate::folding::asking_inputs::{made, wide};
+use crate::made_inputs::{made, wide};
 use crate::{Event, PackedEvent, RecordHead, SliceEvents};
 use bit_fields::{ExpectedValues, Limits, NotTaken, PackedValues, SliceSource, ValueTaker};
 use std::alloc::{AllocError, Global};
@@ -213,12 +213,18 @@ fn events_of_mixed_slices(rt: HostRuntime) {
     }
 }
 
+/// The block of MIXED, and another one.
+const MIXED_AND_EMPTY: &str =
+    "M 21 0C 00 00 05 00 00 00 12 03 54 A2 80 00 0E 00 61 62 63 00 DD 21 14 61 00 00 00 00 E";
+
 /// Inputs, and how many of their records are read in place: not those in a BLOCKINFO block, those with arrays of fields that take
-/// no bits, those past the limit on values, and those that are cut.
-static SEEN: [(&str, u64, u64); 5] = [
-    ("M B U", 1000, 1),
-    (MIXED, 6, 3),
-    (MIXED, 5, 2),
+/// no bits, those past the limit on values, those that are cut, and those of which a field has fewer than 64 bits from it to the end.
+static SEEN: [(&str, u64, u64); 7] = [
+    ("M B U", 1000, 0),
+    ("M B U E", 1000, 1),
+    (MIXED, 6, 1),
+    (MIXED_AND_EMPTY, 6, 3),
+    (MIXED_AND_EMPTY, 5, 2),
     (
         "M 21 0C 00 00 05 00 00 00 12 03 54 A2 80 00 0E 00 61 62",
         1000,

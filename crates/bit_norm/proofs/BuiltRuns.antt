@@ -1,22 +1,33 @@
 -- Records whose text was appended to a form at once.
-use Rattle.std.proofs.Common.{◌≡◌, ℕ, ◌*◌, ◌-◌, ◌%◌, ◌<◌, ◌≤◌, Bool, true, false, List, [], ◌∷◌, ◌++◌, length, take, drop, map, replicate, refl, sym, ap, ◌∙◌, subst, arith, append_assoc}
-use Rattle.std.proofs.lemmas.List.{append-nil, length-append, take_at}
+use Rattle.std.proofs.Common.{◌≡◌, ◌⊎◌, inl, inr, ℕ, ◌*◌, ◌-◌, ◌%◌, ◌<◌, ◌≤◌, Bool, true, false, List, [], ◌∷◌, ◌++◌, length, take, drop, map, replicate, Result, Ok, Err, IfOk, refl, sym, ap, ◌∙◌, subst, arith, append_assoc}
+use Rattle.std.proofs.lemmas.List.{append-nil, length-append, length-drop, take_at}
 use Rattle.bit_grammar.specs.declared.op.Op.{Op}
 use Rattle.bit_grammar.specs.Bits.{bits_of, bits_of_bytes}
+use Rattle.bit_grammar.specs.Blocks.{entry}
+use Rattle.bit_grammar.specs.Fields.{fixed}
 use Rattle.bit_grammar.specs.Machine.{Event, notes}
 use Rattle.bit_grammar.specs.Marks.{RecordMark}
 use Rattle.bit_grammar.specs.Normal.{entry_text}
-use Rattle.bit_fields.specs.Buffered.{BufferedBits}
+use Rattle.bit_grammar.specs.FormatFields.{shortest}
+use Rattle.bit_grammar.specs.Normal.{values_bits}
+use Rattle.bit_fields.specs.Buffered.{BufferedBits, beyond}
 use Rattle.bit_fields.specs.Pens.{HoldBits, LendsEnd, Puts}
+use Rattle.bit_fields.specs.PlacedView.{placed}
+use Rattle.bit_fields.proofs.Pens.{puts_as, puts_nothing, puts_then}
+use Rattle.bit_abbrev.specs.declared.coming.Coming.{Coming}
 use Rattle.bit_fields.proofs.BitLaws.{length-bits_of_bytes}
 use Rattle.bit_events.specs.Gathering.{left_open}
-use Rattle.bit_events.specs.Passing.{GathersRecords, PassedTo}
+use Rattle.bit_events.specs.declared.passing.PassedRun.{PassedRun}
+use Rattle.bit_events.specs.Passing.{GathersRecords, KeepsAll, PassesRecords, PassesRun, ReadsRecord, ReadsRecords, WalksRun}
 use Rattle.bit_events.proofs.Folds.{open_behind-push}
-use Rattle.bit_events.proofs.PassedOver.{none_passed}
+use Rattle.bit_events.proofs.InPlace.{later_read, some_bits}
+use Rattle.bit_events.proofs.PassedOver.{passes_records, reads_then, records_later}
 use Rattle.bit_norm.specs.Building.{IsFormOf, record_left}
-use Rattle.bit_norm.specs.Written.{WritesRun, records_bits}
+use Rattle.bit_norm.specs.Stored.{EndsAt, Stored}
+use Rattle.bit_norm.specs.Written.{records_bits, StoresRun}
 use Rattle.bit_norm.specs.declared.form_builder.FormBuilder.{FormBuilder}
 use Rattle.bit_norm.proofs.Building.{record_added}
+use Rattle.bit_norm.proofs.Written.{entry_whole}
 
 -- the builder with another text
 abbrev pub with_text : FormBuilder → List Bool → FormBuilder
@@ -45,15 +56,40 @@ records_both (mark ∷ marks) more =
     let here = bits_of 2 3 ++ entry_text mark.code mark.values in
     ap (λ (s : List Bool). here ++ s) (records_both marks more) ∙ sym (append_assoc here (records_bits marks) (records_bits more))
 
--- Records that come first were added to a builder, up to these bits.
-pub record AddedSoFar (width : ℕ) (definitions : List (List Op)) (room : ℕ) (a : BufferedBits) (old : FormBuilder) (left : ℕ) (b : BufferedBits) (new : FormBuilder) : Type 0 where
+-- Records that come first were added to a builder, up to others.
+pub record AddedSoFar (definitions : List (List Op)) (first : Coming) (old : FormBuilder) (next : Coming) (new : FormBuilder) : Type 0 where
   pub records : List RecordMark
-  pub passed : PassedTo width definitions room a records left b
+  pub width : next.width ≡ first.width
+  pub reads : ReadsRecords first.width definitions first.room (placed first.bits) records next.room (placed next.bits)
   pub only : new ≡ with_text old new.text
   pub text : new.text ≡ old.text ++ records_bits records
 
-pub none_added : (width : ℕ) (definitions : List (List Op)) (room : ℕ) (a : BufferedBits) (old : FormBuilder) → AddedSoFar width definitions room a old room a old
-none_added width definitions room a old = record { records = []; passed = none_passed width definitions room a; only = refl; text = sym (append-nil old.text) }
+pub none_added : (definitions : List (List Op)) (first : Coming) (old : FormBuilder) → AddedSoFar definitions first old first old
+none_added definitions first old = record { records = []; width = refl; reads = (refl, refl); only = refl; text = sym (append-nil old.text) }
+
+-- ---- records that were stored
+
+-- how a record is stored
+abbrev pub StoresRecord : (first : List ℕ) → (from code : ℕ) → (values : List ℕ) → (last : List ℕ) → (to : ℕ) → Type 0
+StoresRecord first from code values last to = Stored first from code (length values) values last to
+
+pub all_stored : (records : List RecordMark) (first : List ℕ) (from : ℕ) (last : List ℕ) (to : ℕ) → KeepsAll StoresRecord first from records last to → Puts (records_bits records) from first to last
+all_stored [] first from last to kept = subst (λ (x : List ℕ). Puts [] from first to x) (sym kept.0) (subst (λ (n : ℕ). Puts [] from first n first) (sym kept.1) (puts_nothing from first))
+all_stored (mark ∷ records) first from last to kept =
+    let front : List Bool = bits_of 2 3 ++ (shortest 6 mark.code ++ shortest 6 (length mark.values)) in
+    let here : List Bool = bits_of 2 3 ++ entry_text mark.code mark.values in
+    puts_then here (records_bits records) from kept.1 to first kept.0 last
+    (puts_as (front ++ values_bits mark.values) here from kept.1 first kept.0 (entry_whole mark.code (length mark.values) mark.values refl) kept.2)
+    (all_stored records kept.0 kept.1 last to kept.3)
+
+-- what a record that was not stored left is dropped
+pub run_stored : (records : List RecordMark) (first : List ℕ) (from : ℕ) (mid : List ℕ) (to : ℕ) (last : List ℕ) → KeepsAll StoresRecord first from records mid to → (last ≡ mid) ⊎ EndsAt mid to last → Puts (records_bits records) from first to last
+run_stored records first from mid to last kept (inl same) = subst (λ (x : List ℕ). Puts (records_bits records) from first to x) (sym same) (all_stored records first from mid to kept)
+run_stored records first from mid to last kept (inr ends) =
+    puts_as (records_bits records ++ []) (records_bits records) from to first last (append-nil (records_bits records))
+    (puts_then (records_bits records) [] from to to first mid last (all_stored records first from mid to kept) ends)
+
+-- ---- what was lent
 
 -- bytes hold bits: what they begin with
 pub held_front : (bytes : List ℕ) (bits : List Bool) (at : ℕ) → at ≡ length bits → HoldBits bytes bits → (take at (bits_of_bytes bytes) ≡ bits) × (at ≤ 8 * length bytes)
@@ -79,27 +115,94 @@ filled lent at pen bytes held records holds len puts =
       is = front.0;
     }
 
-pub more_added : (width : ℕ) (definitions : List (List Op)) (room : ℕ) (a : BufferedBits) (old : FormBuilder) (left : ℕ) (b : BufferedBits) (new : FormBuilder) (bits : ℕ) (lent : List ℕ) (at : ℕ) (text : List Bool) (pen least : ℕ) (c : BufferedBits) (bytes : List ℕ) (last : List Bool)
-    → AddedSoFar width definitions room a old left b new → LendsEnd bits new.text lent at text → WritesRun width definitions left b at lent pen least c bytes → last ≡ text ++ take pen (bits_of_bytes bytes) → AddedSoFar width definitions room a old least c (with_text new last)
-more_added width definitions room a old left b new bits lent at text pen least c bytes last was lends run is =
-    let f = filled lent at pen bytes lends.held (records_bits run.records) lends.holds lends.ends run.puts in
+-- the records of a run were stored behind those before
+pub record AddedRun (definitions : List (List Op)) (first : Coming) (old : FormBuilder) (run : PassedRun) (end : BufferedBits) (new : FormBuilder) : Type 0 where
+  pub records : List RecordMark
+  pub reads : ReadsRecords first.width definitions first.room (placed first.bits) records run.room end
+  pub only : new ≡ with_text old new.text
+  pub text : new.text ≡ old.text ++ records_bits records
+
+-- where a run ends
+abbrev pub end_of : Coming → PassedRun → BufferedBits
+end_of next run = beyond (placed next.bits) (run.after - (placed next.bits).position)
+
+pub run_added : (definitions : List (List Op)) (first : Coming) (old : FormBuilder) (next : Coming) (new : FormBuilder) (bits : ℕ) (lent : List ℕ) (at : ℕ) (text : List Bool) (records : List RecordMark) (run : PassedRun) (bytes : List ℕ) (last : List Bool)
+    → AddedSoFar definitions first old next new → LendsEnd bits new.text lent at text → PassesRecords next.width definitions next.room (placed next.bits) records run → Puts (records_bits records) at lent run.at bytes → last ≡ text ++ take run.at (bits_of_bytes bytes)
+    → AddedRun definitions first old run (end_of next run) (with_text new last)
+run_added definitions first old next new bits lent at text records run bytes last was lends passes puts is =
+    let f = filled lent at run.at bytes lends.held (records_bits records) lends.holds lends.ends puts in
     record {
-      records = was.records ++ run.records;
-      passed = run.passes room a was.records was.passed;
+      records = was.records ++ records;
+      reads = reads_then first.width definitions first.room (placed first.bits) was.records next.room (placed next.bits) records run.room (end_of next run) was.reads
+          (subst (λ (width : ℕ). ReadsRecords width definitions next.room (placed next.bits) records run.room (end_of next run)) was.width passes.reads);
       only = ap (λ (x : FormBuilder). with_text x last) was.only;
       text = is
           ∙ ap (λ (s : List Bool). text ++ s) f.is
-          ∙ sym (append_assoc text lends.held (records_bits run.records))
-          ∙ ap (λ (s : List Bool). s ++ records_bits run.records) (sym lends.is ∙ was.text)
-          ∙ append_assoc old.text (records_bits was.records) (records_bits run.records)
-          ∙ ap (λ (s : List Bool). old.text ++ s) (sym (records_both was.records run.records));
+          ∙ sym (append_assoc text lends.held (records_bits records))
+          ∙ ap (λ (s : List Bool). s ++ records_bits records) (sym lends.is ∙ was.text)
+          ∙ append_assoc old.text (records_bits was.records) (records_bits records)
+          ∙ ap (λ (s : List Bool). old.text ++ s) (sym (records_both was.records records));
     }
 
--- they were gathered
-pub added_gathered : (width : ℕ) (definitions : List (List Op)) (room : ℕ) (a : BufferedBits) (old : FormBuilder) (left : ℕ) (b : BufferedBits) (new : FormBuilder) (was : AddedSoFar width definitions room a old left b new) → old.long ≡ false → ((code : ℕ) → record_left old.standing code ≡ true) → GathersRecords IsFormOf old was.records new
-added_gathered width definitions room a old left b new was short kept =
-    subst (GathersRecords IsFormOf old was.records) (sym was.only) (records_added was.records old new.text short kept was.text)
+-- more may be stored behind them
+pub more_added : (definitions : List (List Op)) (first : Coming) (old : FormBuilder) (run : PassedRun) (end : BufferedBits) (new : FormBuilder) (behind : Coming) → AddedRun definitions first old run end new → behind.width ≡ first.width → behind.room ≡ run.room → placed behind.bits ≡ end → AddedSoFar definitions first old behind new
+more_added definitions first old run end new behind added width room is = record {
+  records = added.records;
+  width = width;
+  reads = subst (λ (x : BufferedBits). ReadsRecords first.width definitions first.room (placed first.bits) added.records behind.room x) (sym is)
+      (subst (λ (n : ℕ). ReadsRecords first.width definitions first.room (placed first.bits) added.records n end) (sym room) added.reads);
+  only = added.only;
+  text = added.text;
+}
+
+-- ---- they were gathered
+
+pub text_gathered : (records : List RecordMark) (old new : FormBuilder) → new ≡ with_text old new.text → new.text ≡ old.text ++ records_bits records → old.long ≡ false → ((code : ℕ) → record_left old.standing code ≡ true) → GathersRecords IsFormOf old records new
+text_gathered records old new only text short kept = subst (GathersRecords IsFormOf old records) (sym only) (records_added records old new.text short kept text)
+
+pub run_gathered : (definitions : List (List Op)) (first : Coming) (old : FormBuilder) (run : PassedRun) (end : BufferedBits) (new : FormBuilder) → AddedRun definitions first old run end new → run.after ≡ end.position → old.long ≡ false → ((code : ℕ) → record_left old.standing code ≡ true) → PassesRun IsFormOf definitions first old run new
+run_gathered definitions first old run end new added after short kept = (
+  added.records,
+  passes_records first.width definitions first.room (placed first.bits) added.records run.room end run added.reads refl after,
+  text_gathered added.records old new added.only added.text short kept,
+)
+
+pub so_far_gathered : (definitions : List (List Op)) (first : Coming) (old : FormBuilder) (next : Coming) (new : FormBuilder) (run : PassedRun) → AddedSoFar definitions first old next new → run.room ≡ next.room → run.after ≡ (placed next.bits).position → old.long ≡ false → ((code : ℕ) → record_left old.standing code ≡ true) → PassesRun IsFormOf definitions first old run new
+so_far_gathered definitions first old next new run so room after short kept = (
+  so.records,
+  passes_records first.width definitions first.room (placed first.bits) so.records next.room (placed next.bits) run so.reads room after,
+  text_gathered so.records old new so.only so.text short kept,
+)
 
 -- a vector whose elements were stored
 pub items_back : (len : ℕ) (new items : List ℕ) → len ≡ length items → length new ≡ length items → take len (new ++ drop (length new) items) ≡ new
 items_back len new items all same = take_at new (drop (length new) items) len (omega (arith, all, same))
+
+-- ---- a run that is stored
+
+pub stores_run : {R E : Type 0} (counted : R → List RecordMark → R → Type 0) (knows : List (List Op) → Type 0) (definitions : List (List Op)) (next : Coming) (one : R) (old : List ℕ) (two : R) (new : List ℕ) (result : Result PassedRun E) → knows definitions
+    → IfOk result (λ run. (some : List (List Op)) → knows some → WalksRun StoresRecord EndsAt counted some next one old run two new) → IfOk result (λ run. StoresRun definitions next old run new)
+stores_run counted knows definitions next one old two new (Ok run) known walks =
+    let walked = walks definitions known in
+    record { records = walked.records; passes = walked.passes; puts = run_stored walked.records old next.at walked.mid run.at new walked.kept walked.cells }
+stores_run counted knows definitions next one old two new (Err e) known walks = tt
+
+-- a record takes bits
+record_shorter : (width : ℕ) (definitions : List (List Op)) (room : ℕ) (a : BufferedBits) (mark : RecordMark) (left : ℕ) (b : BufferedBits) → ReadsRecord width definitions room a mark left b → length b.bits < length a.bits
+record_shorter width definitions room a mark left b one =
+    let id = later_read (fixed width) a mark.abbreviation (beyond a width) one.id in
+    let wide : width ≤ length a.bits = omega (arith, id.there) in
+    let some = some_bits width mark.abbreviation a (beyond a width) wide one.is_record one.id in
+    let rest = later_read (entry room a.position mark.abbreviation definitions) (beyond a width) (record { code = mark.code; values = mark.values }) b one.fields in
+    omega (arith, some, wide, length-drop width a.bits, ap (λ (d : BufferedBits). length d.bits) rest.is, length-drop (b.position - (beyond a width).position) (beyond a width).bits)
+
+-- some records were stored, and so took bits
+pub stored_some : (definitions : List (List Op)) (next : Coming) (old : List ℕ) (run : PassedRun) (new : List ℕ) (stores : StoresRun definitions next old run new) → next.at < run.at → (c : BufferedBits) → c ≡ end_of next run → length c.bits < length (placed next.bits).bits
+stored_some definitions next old run new stores more c is = some_records stores.records (omega (arith, more, stores.puts.ends)) stores.passes.reads
+  where
+    some_records : (records : List RecordMark) → 0 < length (records_bits records) → ReadsRecords next.width definitions next.room (placed next.bits) records run.room (end_of next run) → length c.bits < length (placed next.bits).bits
+    some_records [] some reads = absurd (omega (arith, some))
+    some_records (mark ∷ records) some reads =
+        let first = record_shorter next.width definitions next.room (placed next.bits) mark reads.0 reads.1 reads.2 in
+        let others = records_later next.width definitions reads.0 reads.1 records run.room (end_of next run) reads.3 in
+        omega (arith, first, ap (λ (d : BufferedBits). length d.bits) is, ap (λ (d : BufferedBits). length d.bits) others.is, length-drop ((end_of next run).position - reads.1.position) reads.1.bits)

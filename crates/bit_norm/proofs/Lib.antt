@@ -17,6 +17,7 @@ pub mod PassedRecords
 pub mod Readings
 pub mod SharedFronts
 pub mod Signs
+pub mod Stored
 pub mod Texts
 pub mod ValueTexts
 pub mod Written
@@ -25,5 +26,4 @@ pub mod Forms
 pub mod Told
 pub mod Telling
 pub mod Calls
-pub mod WrittenRuns
 pub mod BuiltRuns

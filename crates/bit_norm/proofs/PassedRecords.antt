@@ -1,11 +1,13 @@
 -- Records of both inputs that are passed over.
-use Rattle.std.proofs.Common.{◌≡◌, ℕ, suc, ◌+◌, ◌<◌, ◌≤◌, true, false, List, [], ◌∷◌, ◌++◌, Some, None, map, refl, sym, ap, ◌∙◌, subst, append_assoc, arith}
+use Rattle.std.proofs.Common.{◌≡◌, ℕ, suc, ◌+◌, ◌<◌, ◌≤◌, Bool, true, false, List, [], ◌∷◌, ◌++◌, Some, None, map, refl, sym, ap, ◌∙◌, subst, append_assoc, arith}
 use Rattle.std.specs.Prelude.{is_some}
 use Rattle.std.proofs.lemmas.List.{append-nil}
 use Rattle.bit_grammar.specs.Under.{is_left, events_under}
 use Rattle.bit_grammar.specs.Marks.{RecordMark}
 use Rattle.bit_grammar.specs.Machine.{Event, notes}
+use Rattle.bit_events.specs.declared.passing.CountedRecord.{CountedRecord}
 use Rattle.bit_events.specs.Gathering.{left_open}
+use Rattle.bit_events.specs.Passing.{IsMarkOf}
 use Rattle.bit_norm.specs.Entries.{has_record}
 use Rattle.bit_norm.specs.InStep.{Compared, Tallied}
 use Rattle.bit_norm.specs.declared.in_step.Found.{Found}
@@ -52,6 +54,30 @@ module _ (first old : EqualRecords) (done : List RecordMark) (mark : RecordMark)
         (front_silent begun d (events ++ map notes done) (notes mark) here (omega (arith, within, to, was.equal)) (λ ended. left_out_says d.compared.second_blocks ended (notes mark) left)
         (ap left_open (left_more (first_telling begun.compared ((events ++ map notes done) ++ [])) (first_telling d.compared []) (events ++ map notes done) (notes mark) (here.tallied []) false left ∙ append-nil (events_under begun.compared.second_blocks.setting [] (events ++ map notes done))))));
   }
+
+-- nothing was counted
+pub none_counted : (first : EqualRecords) → CountsEqual first [] first
+none_counted first = record { blocks = refl; equal = refl; passes = λ begun c done same to at front some. rw (at, append-nil done) front }
+
+-- ---- the records that a counter is told of
+
+-- a record of these values that was passed over
+abbrev pub mark_of : CountedRecord → List ℕ → RecordMark
+mark_of passed values = record { abbreviation = passed.id; code = passed.code; values = values; first = passed.first; after = passed.after }
+
+told_as : (passed : CountedRecord) (lists : Bool) (shown : List ℕ) (mark : RecordMark) → IsMarkOf true lists passed shown mark → mark_of passed mark.values ≡ mark
+told_as passed lists shown mark is = rw (← is.abbreviation, ← is.code refl, ← is.first, ← is.after) refl
+
+module _ (first old : EqualRecords) (done : List RecordMark) (passed : CountedRecord) (lists : Bool) (shown : List ℕ) (mark : RecordMark) (is : IsMarkOf true lists passed shown mark) (was : CountsEqual first done old) (within : passed.after ≤ old.equal) where
+  pub told_kept : (n items : ℕ) → n ≡ old.passed + 1 → items ≡ old.items + 1 → is_left old.blocks.now.setting old.blocks.now.ids (notes (mark_of passed mark.values)) ≡ true
+      → CountsEqual first (done ++ mark ∷ []) (record { blocks = old.blocks; equal = old.equal; passed = n; items = items; ended = passed.after })
+  told_kept n items one more kept = subst (λ (m : RecordMark). CountsEqual first (done ++ m ∷ []) (record { blocks = old.blocks; equal = old.equal; passed = n; items = items; ended = passed.after })) (told_as passed lists shown mark is)
+      (counted_kept first old done (mark_of passed mark.values) was within n items one more kept)
+
+  pub told_out : (n : ℕ) → n ≡ old.passed + 1 → is_left old.blocks.now.setting old.blocks.now.ids (notes (mark_of passed mark.values)) ≡ false
+      → CountsEqual first (done ++ mark ∷ []) (record { blocks = old.blocks; equal = old.equal; passed = n; items = old.items; ended = old.ended })
+  told_out n one out = subst (λ (m : RecordMark). CountsEqual first (done ++ m ∷ []) (record { blocks = old.blocks; equal = old.equal; passed = n; items = old.items; ended = old.ended })) (told_as passed lists shown mark is)
+      (counted_out first old done (mark_of passed mark.values) was within n one out)
 
 -- records that were counted were passed over
 pub passed_counted : (begun old : Comparing) (done : List Event) (records : List RecordMark) (first last : EqualRecords) → CountsEqual first records last → old.compared.second_blocks ≡ first.blocks.now → old.passed_to ≡ first.equal → first.passed ≡ old.passed → first.items ≡ old.compared.items → first.ended ≡ old.compared.second_ended

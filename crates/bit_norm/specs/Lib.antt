@@ -10,3 +10,5 @@ pub mod Told
 pub mod Telling
 pub mod Calls
 pub mod Written
+pub mod Stored
+pub mod StoredLaws

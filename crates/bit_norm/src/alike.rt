@@ -4,14 +4,18 @@ ghost use Rattle.std.specs.Prelude.{◌≡◌, ◌≤◌, length, take, true};
 ghost use Rattle.bit_grammar.specs.Setting.{setting_of};
 ghost use Rattle.bit_norm.specs.Rejoined.{equal_behind, ComparesChecked, Confirms, OfSecond, TakesBeginning, TakesNext, TakesSlice, TakesSlices};
 
+use crate::again::{Again, Slices};
 use crate::comparing::{SameFault, Which, faulty};
 use crate::differences::Difference;
 use crate::in_step::compare_with;
-use crate::rejoined::{Again, Rejoined};
+use crate::rejoined::Rejoined;
 use bit_events::check;
 use bit_fields::{Fault, Limits, SliceSource, Source, SourceFailed};
 use bit_tree::Info;
 use std::alloc::Global;
+
+#[cfg(test)]
+mod asking_tests;
 
 /// Whether two slices have the same bytes.
 #[inline(always)]
@@ -67,44 +71,32 @@ impl Stop {
     }
 }
 
-/// Takes the slice that a source lends next, if it is the next of these bytes, of which so many were taken. `None`: the next one may be
-/// taken too.
+/// Takes the slice that a source lends next, if it is the next of these bytes, and counts it. `None`: the next one may be taken too.
 ///
 /// A source that takes less than it lent lends the rest again, so no more is compared.
 fn take_slice<S: Source>(
     first: &[u8],
     source: &mut S,
-<<<<<<< /tmp/o
     slices: &mut Slices,
-    digits: &mut [u16],
 ) -> Result<Option<Stop>, SourceFailed>
     requires { slices.old.bytes ≤ length first.now }
     ensures { TakesSlice first.now slices.old (S.incoming source.old) result slices.new (S.incoming source.new) }
 {
-||||||| /tmp/b
-    slices: &mut Slices,
-    digits: &mut [u16],
-) -> Result<Option<Stop>, SourceFailed>
-{
-=======
-    taken: &mut usize,
-) -> Result<Option<Stop>, SourceFailed> {
->>>>>>> /tmp/t
     if !source.look()? {
         return Ok(Some(Stop::Silent));
     }
     let slice = source.lend();
     let count = slice.len();
-    let equal = equal_front(slice, &first[*taken..]);
+    let equal = equal_front(slice, &first[slices.bytes..]);
     if equal < count || count == 0 {
         return Ok(Some(Stop::Other(equal)));
     }
-    let passed = source.pass(count)?;
-    if passed == 0 {
+    let taken = source.pass(count)?;
+    if taken == 0 {
         return Ok(Some(Stop::End));
     }
-    *taken += passed;
-    if passed < count {
+    slices.add(taken);
+    if taken < count {
         return Ok(Some(Stop::Other(0)));
     }
     Ok(None)
@@ -114,28 +106,13 @@ fn take_slice<S: Source>(
 fn take_slices<S: Source>(
     first: &[u8],
     source: &mut S,
-<<<<<<< /tmp/o
     slices: &mut Slices,
-    digits: &mut [u16],
 ) -> Result<Stop, SourceFailed>
     requires { slices.old.bytes ≡ 0 }
     ensures { TakesSlices first.now slices.old (S.incoming source.old) result slices.new (S.incoming source.new) }
 {
-    while slices.bytes < first.len() && slices.has_room(digits) {
-        if let Some(stop) = take_slice(first, source, slices, digits)? {
-||||||| /tmp/b
-    slices: &mut Slices,
-    digits: &mut [u16],
-) -> Result<Stop, SourceFailed>
-{
-    while slices.bytes < first.len() && slices.has_room(digits) {
-        if let Some(stop) = take_slice(first, source, slices, digits)? {
-=======
-    taken: &mut usize,
-) -> Result<Stop, SourceFailed> {
-    while *taken < first.len() {
-        if let Some(stop) = take_slice(first, source, taken)? {
->>>>>>> /tmp/t
+    while slices.bytes < first.len() {
+        if let Some(stop) = take_slice(first, source, slices)? {
             return Ok(stop);
         }
     }
@@ -156,28 +133,20 @@ fn take_next<S: Source>(
     Ok(Some(source.pull(next)?))
 }
 
-/// How an input begins, compared with another one, of whose bytes so many were taken.
+/// How an input begins, compared with another one.
 #[derive(Clone, Copy)]
 pub(crate) enum Beginning {
     /// It has the same bytes, and no more.
     Same,
-    /// It has the bytes that were taken, and no more.
+    /// It has the bytes of the slices, and no more.
     Ended,
-    /// `next` bytes more were taken. `silent`: it was then looked at and lent nothing. So many bytes behind those are the same too.
+    /// The bytes of the slices were taken, and `next` more. `silent`: it was then looked at and lent nothing. So many bytes behind
+    /// those of the slices are the same too.
     Taken {
         next: usize,
         silent: bool,
         equal: usize,
     },
-}
-
-impl Beginning {
-    /// Nothing more is known of it.
-    const UNKNOWN: Beginning = Beginning::Taken {
-        next: 0,
-        silent: false,
-        equal: 0,
-    };
 }
 
 /// Takes the bytes of a source that begin as these, as far as they are lent. If they are all, it asks for one more byte, after a
@@ -188,27 +157,24 @@ fn take_beginning<S: Source>(
     first: &[u8],
     source: &mut S,
     limits: Limits,
-    taken: &mut usize,
+    slices: &mut Slices,
     next: &mut [u8; 1],
-<<<<<<< /tmp/o
 ) -> Result<Beginning, SourceFailed>
     requires { slices.old.bytes ≡ 0 }
     ensures { TakesBeginning limits first.now slices.new next.new (S.incoming source.old) result (S.incoming source.new) }
 {
-||||||| /tmp/b
-) -> Result<Beginning, SourceFailed>
-{
-=======
-) -> Result<Beginning, SourceFailed> {
->>>>>>> /tmp/t
     if first.len() as u64 > limits.bytes() {
-        return Ok(Beginning::UNKNOWN);
+        return Ok(Beginning::Taken {
+            next: 0,
+            silent: false,
+            equal: 0,
+        });
     }
-    let stop = take_slices(first, source, taken)?;
+    let stop = take_slices(first, source, slices)?;
     if let Stop::End = stop {
         return Ok(Beginning::Ended);
     }
-    if *taken < first.len() {
+    if slices.bytes < first.len() {
         return Ok(Beginning::Taken {
             next: 0,
             silent: matches!(stop, Stop::Silent),
@@ -216,7 +182,11 @@ fn take_beginning<S: Source>(
         });
     }
     match take_next(source, (first.len() as u64) < limits.bytes(), next)? {
-        None => Ok(Beginning::UNKNOWN),
+        None => Ok(Beginning::Taken {
+            next: 0,
+            silent: false,
+            equal: 0,
+        }),
         Some(0) => Ok(Beginning::Same),
         Some(more) => Ok(Beginning::Taken {
             next: more,
@@ -262,8 +232,8 @@ fn confirm(
 /// is returned in its present state.
 ///
 /// The bytes of both are compared first, and if they are all the same the input is read no further. Else it is read in step with
-/// the other bytes; the bytes that were taken are given again. `judged`: the other bytes are known to be accepted even if their source
-/// is not known.
+/// the other bytes. The bytes that were taken are given again, in as many slices as the source lent them in, so that it is called no
+/// more often than without the comparison. `judged`: the other bytes are known to be accepted even if their source is not known.
 pub(crate) fn compare_checked<S: Source>(
     alloc: Global,
     first: &[u8],
@@ -271,29 +241,20 @@ pub(crate) fn compare_checked<S: Source>(
     limits: Limits,
     info: Info<'_>,
     judged: bool,
-<<<<<<< /tmp/o
-    digits: &mut [u16],
 ) -> (Result<Option<Difference>, SameFault>, S)
     ensures { ComparesChecked judged (setting_of info.entry) limits first.now (S.incoming source) result.0
         (S.incoming result.1) }
 {
-||||||| /tmp/b
-    digits: &mut [u16],
-) -> (Result<Option<Difference>, SameFault>, S)
-{
-=======
-) -> (Result<Option<Difference>, SameFault>, S) {
->>>>>>> /tmp/t
     // The limits are within their caps, so no count of pulls up to the limit on bytes is exhausted.
     let _bytes = limits.bytes();
     let mut source = source;
-    let mut taken = 0;
+    let mut slices = Slices::new();
     let mut next = [0];
-    match take_beginning(first, &mut source, limits, &mut taken, &mut next) {
+    match take_beginning(first, &mut source, limits, &mut slices, &mut next) {
         Ok(Beginning::Same) => (confirm(alloc, first, limits, judged), source),
         Ok(Beginning::Ended) => {
-            let all = SliceSource::new(&first[..taken]);
-            let (answer, _) = compare_with(alloc, first, all, limits, info, taken);
+            let all = SliceSource::new(&first[..slices.bytes]);
+            let (answer, _) = compare_with(alloc, first, all, limits, info, slices.bytes);
             (of_second(answer), source)
         }
         Ok(
@@ -303,96 +264,14 @@ pub(crate) fn compare_checked<S: Source>(
                 equal,
             },
         ) => {
-            let again = Again::new(&first[..taken], &next[..more]);
+            let bytes = &first[..slices.bytes];
+            let same = slices.bytes + equal;
+            let count = slices.count;
+            let again = Again::new(bytes, count, &next[..more]);
             let rejoined = Rejoined::new(again, source, silent);
-            let same = taken + equal;
             let (answer, rejoined) = compare_with(alloc, first, rejoined, limits, info, same);
             (of_second(answer), rejoined.into_inner())
         }
         Err(SourceFailed) => (Err(faulty(Which::Second, Fault::Read)), source),
     }
 }
-<<<<<<< /tmp/o
-
-/// The same with many digits.
-#[inline(never)]
-fn compare_long<S: Source>(
-    alloc: Global,
-    first: &[u8],
-    source: S,
-    limits: Limits,
-    info: Info<'_>,
-    judged: bool,
-) -> (Result<Option<Difference>, SameFault>, S)
-    ensures { ComparesChecked judged (setting_of info.entry) limits first.now (S.incoming source) result.0
-        (S.incoming result.1) }
-{
-    let mut digits = [0; MANY];
-    compare_noting(alloc, first, source, limits, info, judged, &mut digits)
-}
-
-/// Reads an input to its end, and returns where its tree and that of accepted bytes differ under a setting, if they do. The source
-/// is returned in its present state.
-///
-/// The bytes of both are compared first, and if they are all the same the input is read no further. Else it is read in step with
-/// the other bytes. The bytes that were taken are given again in the slices in which the source lent them, so that the source is
-/// asked where it would be without the comparison. `judged`: the other bytes are known to be accepted even if their source is not
-/// known.
-pub(crate) fn compare_checked<S: Source>(
-    alloc: Global,
-    first: &[u8],
-    source: S,
-    limits: Limits,
-    info: Info<'_>,
-    judged: bool,
-) -> (Result<Option<Difference>, SameFault>, S)
-    ensures { ComparesChecked judged (setting_of info.entry) limits first.now (S.incoming source) result.0
-        (S.incoming result.1) }
-{
-    if first.len() >= LONG {
-        return compare_long(alloc, first, source, limits, info, judged);
-    }
-    let mut digits = [0; FEW];
-    compare_noting(alloc, first, source, limits, info, judged, &mut digits)
-}
-||||||| /tmp/b
-
-/// The same with many digits.
-#[inline(never)]
-fn compare_long<S: Source>(
-    alloc: Global,
-    first: &[u8],
-    source: S,
-    limits: Limits,
-    info: Info<'_>,
-    judged: bool,
-) -> (Result<Option<Difference>, SameFault>, S)
-{
-    let mut digits = [0; MANY];
-    compare_noting(alloc, first, source, limits, info, judged, &mut digits)
-}
-
-/// Reads an input to its end, and returns where its tree and that of accepted bytes differ under a setting, if they do. The source
-/// is returned in its present state.
-///
-/// The bytes of both are compared first, and if they are all the same the input is read no further. Else it is read in step with
-/// the other bytes. The bytes that were taken are given again in the slices in which the source lent them, so that the source is
-/// asked where it would be without the comparison. `judged`: the other bytes are known to be accepted even if their source is not
-/// known.
-pub(crate) fn compare_checked<S: Source>(
-    alloc: Global,
-    first: &[u8],
-    source: S,
-    limits: Limits,
-    info: Info<'_>,
-    judged: bool,
-) -> (Result<Option<Difference>, SameFault>, S)
-{
-    if first.len() >= LONG {
-        return compare_long(alloc, first, source, limits, info, judged);
-    }
-    let mut digits = [0; FEW];
-    compare_noting(alloc, first, source, limits, info, judged, &mut digits)
-}
-=======
->>>>>>> /tmp/t

@@ -1,20 +1,20 @@
 ghost use Rattle.std.specs.Prelude.{◌≡◌, ◌+◌, ◌*◌, ◌/◌, ◌^◌, ◌<◌, ◌≤◌, ℕ, List, [], ◌++◌, length, true, false, IfSome, MatchOption, IfOk, OnOk};
 ghost use Rattle.bit_grammar.specs.Machine.{Event};
-ghost use Rattle.bit_grammar.specs.Marks.{RecordMark};
 ghost use Rattle.bit_grammar.specs.Setting.{setting_of};
 ghost use Rattle.bit_grammar.specs.Normal.{most_bytes, values_bits, end_text};
 ghost use Rattle.bit_events.specs.Gathering.{left_open};
-ghost use Rattle.bit_fields.specs.PlacedView.{placed};
+ghost use Rattle.bit_abbrev.specs.BlockMarks.{all_in, AreInForce};
+ghost use Rattle.bit_abbrev.specs.BlockPlans.{all_of_block, StandsFor};
 ghost use Rattle.bit_fields.specs.Texts.{with_word};
 ghost use Rattle.bit_events.specs.MachineView.{TookSome};
-ghost use Rattle.bit_events.specs.Passing.{GathersRecords, PassesRecords, PassesRun};
+ghost use Rattle.bit_events.specs.Passing.{PassesRun};
 ghost use Rattle.bit_norm.specs.Building.{HasTaken, record_left, AddsRecord, GrowsTo, IsFormOf, StaysAs, BuildsBlock, BuildsEnd, BuildsRecord, IsTooLong, IsWholeForm};
 ghost use Rattle.bit_norm.specs.Writing.{record_front, record_text, enter_text};
 
-use crate::form_run::{SHORT, Storing};
+use crate::form_run::{SHORT, store_run};
 use crate::form_values::{FormValues, is_long};
 use bit_abbrev::{BlockDefinitions, Coming, HeldOps, InForce};
-use bit_events::{Gatherer, OpenBlocks, PassedRun, Uncounted, walk_run};
+use bit_events::{Gatherer, OpenBlocks, PassedRun};
 use bit_fields::{BitText, Limits};
 use bit_tree::Info;
 use std::alloc::{AllocError, Global};
@@ -49,6 +49,7 @@ fn close_block(text: &mut BitText, hole: u64) -> Result<(), AllocError>
 }
 
 /// Adds what comes in a record before its values.
+#[tactic(auto, using(crate::proofs::ValueTexts::front_few))]
 fn add_record_head(text: &mut BitText, code: u64, count: u64) -> Result<(), AllocError>
     requires { length text.old < 2 ^ 38 }
     ensures ok { OnOk result (text.new ≡ text.old ++ record_front code count) }
@@ -59,6 +60,7 @@ fn add_record_head(text: &mut BitText, code: u64, count: u64) -> Result<(), Allo
 
 /// Adds a record of few values.
 #[inline(always)]
+#[tactic(auto, using(crate::proofs::ValueTexts::entry_few))]
 fn add_short_record(text: &mut BitText, code: u64, values: &[u64]) -> Result<(), AllocError>
     requires few { length text.old < 2 ^ 38 }
     requires short { length values.now ≤ 64 }
@@ -85,6 +87,7 @@ fn add_record(
 
 /// Adds a record of any number of values in pieces, until the text is longer than the limit on bytes. Returns whether it is whole.
 #[inline(never)]
+#[tactic(auto, using(crate::proofs::ValueTexts::values_few))]
 fn add_pieces(
     text: &mut BitText,
     limits: Limits,
@@ -149,6 +152,7 @@ impl<'a> FormBuilder<'a> {
     }
 
     /// The text, or `None` if the form is longer than the limit on bytes.
+    #[tactic(auto, using(crate::proofs::Building::whole_text, crate::proofs::Building::passes_whole))]
     pub(crate) fn finish(self) -> Option<BitText>
         ensures form { (first : FormBuilder) (events : List Event)
             → IsFormOf first events self.entry → left_open events ≡ 0
@@ -289,12 +293,11 @@ impl<'a> FormBuilder<'a> {
         next: Coming<'_>,
         definitions: &InForce<'_>,
     ) -> Result<PassedRun, AllocError>
-        requires width { width ≤ 32 }
+        requires sound { AreInForce definitions.now }
+        requires width { next.width ≤ 32 }
         requires short { self.old.long ≡ false }
         requires kept { (code : ℕ) → record_left self.old.standing code ≡ true }
-        ensures { IfOk result (λ run. (run.room ≤ room) × ((records : List RecordMark)
-            × PassesRecords width definitions.now room (placed bits.entry) records run
-            × GathersRecords IsFormOf self.old records self.new)) }
+        ensures { IfOk result (λ run. PassesRun IsFormOf (all_in definitions.now) next.entry self.old run self.new) }
     {
         let mut next = next;
         while !is_long(&self.text, self.limits) {
@@ -302,9 +305,8 @@ impl<'a> FormBuilder<'a> {
             let mut bytes = lent;
             let most = (8 * self.limits.bytes() + 7).saturating_sub(self.text.len());
             let last = most.min(8 * bytes.len() as u64 - SHORT);
-            let by = Storing { last, definitions };
             next.at = at;
-            let run = walk_run(by, &mut bytes, next, &mut Uncounted)?;
+            let run = store_run(&mut bytes, next, last, definitions)?;
             self.text.give_back(bytes, run.at)?;
             if run.at <= last {
                 return Ok(run);
@@ -320,11 +322,11 @@ impl<'a> FormBuilder<'a> {
     fn pass_run(
         &mut self,
         next: Coming<'_>,
-        definitions: BlockDefinitions<'_>,
+        definitions: &BlockDefinitions<'_>,
     ) -> Result<PassedRun, AllocError>
-        requires width { width ≤ 32 }
-        ensures { IfOk result (λ run. PassesRun IsFormOf width definitions.now.all room (placed bits.entry)
-            self.old run self.new) }
+        requires stands { StandsFor definitions.now }
+        requires width { next.width ≤ 32 }
+        ensures { IfOk result (λ run. PassesRun IsFormOf (all_of_block definitions.now) next.entry self.old run self.new) }
     {
         if self.long || !self.standing.is_whole() {
             return Ok(PassedRun::none(next));
@@ -379,7 +381,11 @@ impl<'a> Gatherer for FormBuilder<'a> {
     }
 
     #[inline(always)]
-    fn pass(&mut self, next: Coming<'_>, definitions: BlockDefinitions<'_>) -> Result<PassedRun, AllocError> {
+    fn pass(
+        &mut self,
+        next: Coming<'_>,
+        definitions: &mut BlockDefinitions<'_>,
+    ) -> Result<PassedRun, AllocError> {
         self.pass_run(next, definitions)
     }
 

@@ -9,7 +9,7 @@ ghost use Rattle.bit_norm.specs.Entries.{has_record, standing_shown, the_record,
 ghost use Rattle.bit_events.specs.EventView.{event_shown};
 ghost use Rattle.bit_events.specs.Standing.{stands_after};
 ghost use Rattle.bit_fields.specs.Opening.{head_told};
-ghost use Rattle.bit_fields.specs.PlacedView.{placed};
+ghost use Rattle.bit_abbrev.specs.BlockPlans.{all_of_block, KeepsBlock, StandsFor};
 ghost use Rattle.bit_events.specs.Passing.{PassesRun};
 ghost use Rattle.bit_norm.specs.InStep.{said_of, sign_shown, stand_of, IsBeside, Weighs, PutsDown, StandsBeside, WeighsNext, Steps, Meets};
 ghost use Rattle.bit_norm.specs.InFront.{ComparesBehind, Concludes, Matches};
@@ -111,6 +111,7 @@ fn held_beside(own: Sign<'_>, bit: u64, ended: u64, sign: Sign<'_>, apart: &mut 
 }
 
 /// Compares an event that is kept with a sign. What comes before it ended at `ended`.
+#[tactic(auto, using(crate::proofs::InStep::begin_says, crate::proofs::InStep::record_says, crate::proofs::InStep::end_says))]
 fn weigh_left(event: PackedEvent<'_>, sign: Sign<'_>, ended: u64, apart: &mut Apart) -> Weighed
     ensures { IsBeside (said_of ended (event_shown event.entry)) (sign_shown sign.entry) result
         apart.new }
@@ -141,6 +142,7 @@ fn weigh_left(event: PackedEvent<'_>, sign: Sign<'_>, ended: u64, apart: &mut Ap
 }
 
 /// Compares an event with a sign, if it is kept, and updates the open blocks of the first input.
+#[tactic(auto, using(crate::proofs::InStep::left_says, crate::proofs::InStep::left_out_says))]
 fn weigh(
     event: PackedEvent<'_>,
     sign: Sign<'_>,
@@ -325,8 +327,14 @@ struct EqualRecords<'a> {
 }
 
 impl<'a> RunCounter for EqualRecords<'a> {
+    ghost use Rattle.std.specs.Prelude.{true, false};
     ghost use Rattle.bit_norm.specs.InFront.{CountsEqual};
 
+    ghost counted = { λ first records last. CountsEqual first records last };
+
+    ghost asks = { true };
+
+    ghost lists = { false };
 
     #[inline(always)]
     fn count(&mut self, passed: CountedRecord, _values: &[u64]) -> Result<bool, AllocError> {
@@ -415,13 +423,18 @@ impl<'a> Comparer<'a> {
     fn pass_equal(
         &mut self,
         next: Coming<'_>,
-        definitions: BlockDefinitions<'_>,
+        definitions: &mut BlockDefinitions<'_>,
     ) -> Result<PassedRun, AllocError>
-        requires width { width ≤ 32 }
+        requires stands { StandsFor definitions.old }
+        requires width { next.width ≤ 32 }
+        ensures same_reference { definitions.new.definitions.ghost_name ≡ definitions.old.definitions.ghost_name }
+        ensures marks { definitions.new.marks ≡ definitions.old.marks }
+        ensures keeps { KeepsBlock definitions.old.marks definitions.old.definitions.now
+            definitions.new.definitions.now }
         requires found { self.old.compared.found ≡ None }
         requires some { 0 < self.old.passed_to }
-        ensures { IfOk result (λ run. PassesRun Matches width definitions.now.all room (placed bits.entry)
-            self.old run self.new) }
+        ensures passes { IfOk result (λ run. PassesRun Matches (all_of_block definitions.old) next.entry self.old run
+            self.new) }
     {
         let mut equal = EqualRecords {
             blocks: &self.second_blocks,
@@ -667,7 +680,11 @@ impl<'a> Gatherer for Comparer<'a> {
         self.passed_to > 0
     }
 
-    fn pass(&mut self, next: Coming<'_>, definitions: BlockDefinitions<'_>) -> Result<PassedRun, AllocError> {
+    fn pass(
+        &mut self,
+        next: Coming<'_>,
+        definitions: &mut BlockDefinitions<'_>,
+    ) -> Result<PassedRun, AllocError> {
         if self.passed_to == 0 {
             return Ok(PassedRun::none(next));
         }

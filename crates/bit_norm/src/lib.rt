@@ -18,6 +18,7 @@
 //! its values are not held unless they differ. `same` is true if there is no first difference.
 #![tactic(auto)]
 
+mod again;
 mod alike;
 mod comparing;
 mod difference_laws;
@@ -35,6 +36,8 @@ mod form_writer_tests;
 mod in_step;
 #[cfg(test)]
 mod input_tests;
+#[cfg(test)]
+mod lendings;
 mod lengths;
 mod magics;
 mod normalising;

@@ -4,82 +4,69 @@ ghost use Rattle.std.specs.Prelude.{◌≡◌, ◌<◌, ◌≤◌, ◌+◌, ◌-
 ghost use Rattle.bit_fields.specs.Devices.{GaveNone, IsFresh, PullsUnseen};
 ghost use Rattle.bit_norm.specs.Rejoined.{rejoined_of, held_of, owed_of};
 
+use crate::again::Again;
 use bit_fields::{Source, SourceFailed};
 
-<<<<<<< /tmp/o
+/// How many of these bytes the first one of `count` slices has. They have about as many each, and each has one at least.
+fn width_of(bytes: usize, count: usize) -> usize
+    requires some { 0 < count }
+    requires few { count ≤ bytes }
+    ensures some { 0 < result }
+    ensures last { count ≡ 1 → result ≡ bytes }
+    ensures rest { result + (count - 1) ≤ bytes }
+{
+    // Each slice behind this one has a byte.
+    let most = bytes - (count - 1);
+    if count == 1 { most } else { (bytes / count).max(1).min(most) }
+}
+
 impl<'a> Again<'a> {
-    /// Gives these bytes again in `count` slices of these widths, and then others.
-    pub(crate) fn new(
-        bytes: &'a [u8],
-        count: usize,
-        widths: Widths<'a>,
-        next: &'a [u8],
-    ) -> Again<'a>
+    /// Gives these bytes again in `count` slices, and then others.
+    pub(crate) fn new(bytes: &'a [u8], count: usize, next: &'a [u8]) -> Again<'a>
         requires few { count ≤ length bytes.now }
         requires none { count ≡ 0 → length bytes.now ≡ 0 }
         ensures held { held_of result ≡ bytes.now ++ next.now }
         ensures owed { owed_of result ≡ count + min 1 (length next.now) }
     {
-        Again::behind(&[], bytes, count, widths, next)
+        Again::behind(&[], bytes, count, next)
     }
-||||||| /tmp/b
-impl<'a> Again<'a> {
-    /// Gives these bytes again in `count` slices of these widths, and then others.
-    pub(crate) fn new(
-        bytes: &'a [u8],
-        count: usize,
-        widths: Widths<'a>,
-        next: &'a [u8],
-    ) -> Again<'a>
-    {
-        Again::behind(&[], bytes, count, widths, next)
-    }
-=======
-/// Bytes that are given again, and others behind them.
-#[derive(Clone, Copy)]
-pub(crate) struct Again<'a> {
-    /// What is given now,
-    slice: &'a [u8],
-    /// and what is given behind it.
-    next: &'a [u8],
-    ghost first: { length slice.now ≡ 0 → next.now ≡ [] },
-}
->>>>>>> /tmp/t
 
-impl<'a> Again<'a> {
-    /// Gives these bytes again, and then others.
+    /// Gives the rest of a slice again, the slices behind it, and then others.
     #[inline(always)]
-<<<<<<< /tmp/o
     fn behind(
         slice: &'a [u8],
         rest: &'a [u8],
         more: usize,
-        widths: Widths<'a>,
         next: &'a [u8],
     ) -> Again<'a>
         requires few { more ≤ length rest.now }
         requires none { more ≡ 0 → rest.now ≡ [] }
         ensures held { held_of result ≡ slice.now ++ (rest.now ++ next.now) }
         ensures owed { owed_of result ≡ min 1 (length slice.now) + (more + min 1 (length next.now)) }
-||||||| /tmp/b
-    fn behind(
-        slice: &'a [u8],
-        rest: &'a [u8],
-        more: usize,
-        widths: Widths<'a>,
-        next: &'a [u8],
-    ) -> Again<'a>
-=======
-    pub(crate) fn new(bytes: &'a [u8], next: &'a [u8]) -> Again<'a>
->>>>>>> /tmp/t
     {
-        if bytes.is_empty() {
+        if !slice.is_empty() {
+            return Again {
+                slice,
+                rest,
+                more,
+                next,
+            };
+        }
+        if more == 0 {
             return Again {
                 slice: next,
+                rest,
+                more,
                 next: &[],
             };
         }
-        Again { slice: bytes, next }
+        let (slice, rest) = rest.split_at(width_of(rest.len(), more));
+        Again {
+            slice,
+            rest,
+            more: more - 1,
+            next,
+        }
     }
 
     /// Whether all were given.
@@ -92,7 +79,6 @@ impl<'a> Again<'a> {
     }
 
     /// Takes the next bytes of a slice, at most `most`; none only if there are none, or room for none.
-<<<<<<< /tmp/o
     fn take(&mut self, most: usize) -> &'a [u8]
         ensures held { held_of self.old ≡ result.now ++ held_of self.new }
         ensures few { length result.now ≤ most }
@@ -100,17 +86,10 @@ impl<'a> Again<'a> {
         ensures owed { owed_of self.old ≤ owed_of self.new + 1 }
         ensures fewer { owed_of self.new ≤ owed_of self.old }
     {
-||||||| /tmp/b
-    fn take(&mut self, most: usize) -> &'a [u8]
-    {
-=======
-    fn take(&mut self, most: usize) -> &'a [u8] {
->>>>>>> /tmp/t
         let (given, left) = self.slice.split_at(most.min(self.slice.len()));
-        *self = Again::new(left, self.next);
+        *self = Again::behind(left, self.rest, self.more, self.next);
         given
     }
-<<<<<<< /tmp/o
 
     /// The slice that is given next.
     #[inline(always)]
@@ -119,16 +98,6 @@ impl<'a> Again<'a> {
     {
         self.slice
     }
-||||||| /tmp/b
-
-    /// The slice that is given next.
-    #[inline(always)]
-    fn shown(&self) -> &'a [u8]
-    {
-        self.slice
-    }
-=======
->>>>>>> /tmp/t
 }
 
 /// A source that gives these bytes again, and then the bytes of another one. It asks the other one for nothing before, and for
@@ -258,7 +227,7 @@ impl<'a, S: Source> Source for Rejoined<'a, S> {
             return &[];
         }
         if !self.again.is_over() {
-            return self.again.slice;
+            return self.again.shown();
         }
         self.source.lend()
     }

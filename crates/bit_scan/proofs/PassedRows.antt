@@ -14,7 +14,7 @@ use Rattle.bit_grammar.specs.Tally.{CodeTally, BlockTally, record_bits, is_abbre
 use Rattle.bit_grammar.specs.Counting.{OpenCount, Counts, fresh_row, one_record, with_row, no_counts, count_event, count_events}
 use Rattle.bit_events.specs.declared.passing.CountedRecord.{CountedRecord}
 use Rattle.bit_events.specs.Gathering.{left_open}
-use Rattle.bit_events.specs.Passing.{mark_of, values_of}
+use Rattle.bit_events.specs.Passing.{values_of, IsMarkOf}
 use Rattle.bit_scan.specs.CodesView.{code_tallies, with_use}
 use Rattle.bit_scan.specs.Counting.{open_count, open_counts}
 use Rattle.bit_scan.specs.Cut.{cut_code, cut_open, cut_row, cut_rows, capped_counts}
@@ -33,8 +33,15 @@ uses_then : (done : List RecordMark) (mark : RecordMark) (codes : List CodeTally
 uses_then [] mark codes = refl
 uses_then (first ∷ done) mark codes = uses_then done mark (with_use first.code (record_bits first) codes)
 
+-- a record of these values that was passed over
+abbrev mark_of : CountedRecord → List ℕ → RecordMark
+mark_of passed values = record { abbreviation = passed.id; code = passed.code; values = values; first = passed.first; after = passed.after }
+
+told_as : (passed : CountedRecord) (lists : Bool) (shown : List ℕ) (mark : RecordMark) → IsMarkOf true lists passed shown mark → mark_of passed mark.values ≡ mark
+told_as passed lists shown mark is = rw (← is.abbreviation, ← is.code refl, ← is.first, ← is.after) refl
+
 -- a record that was passed over is counted after others
-pub one_passed : {S H : Type 0} (result : Result (Unit {0}) AllocError) (passed : CountedRecord) (old : RowCounter S H) (row : BlockRow S H) (places : MutBor (List ℕ)) (plain abbreviated : ℕ) → row ≡ with_codes row.codes old.row.now
+one_passed : {S H : Type 0} (result : Result (Unit {0}) AllocError) (passed : CountedRecord) (old : RowCounter S H) (row : BlockRow S H) (places : MutBor (List ℕ)) (plain abbreviated : ℕ) → row ≡ with_codes row.codes old.row.now
     → ((tallies : List CodeTally) → code_tallies old.row.now.codes ≡ map cut_code tallies → OnOk result (code_tallies row.codes ≡ map cut_code (with_use passed.code (passed.after - passed.first) tallies)))
     → plain ≡ min (old.plain + (if leb 4 passed.id then 0 else 1)) 18446744073709551615 → abbreviated ≡ min (old.abbreviated + (if leb 4 passed.id then 1 else 0)) 18446744073709551615
     → OnOk result ((list : List ℕ) → length list ≡ passed.count → (first : RowCounter S H) (done : List RecordMark) → CountsBehind first done old
@@ -52,6 +59,16 @@ one_passed (Ok x) passed old row places plain abbreviated row_is used plain_is a
   where
     more : (mark : RecordMark) (n : ℕ) (done : List RecordMark) (f : RecordMark → ℕ) → n + sum_by f done + f mark ≡ n + sum_by f (done ++ mark ∷ [])
     more mark n done f = omega (arith, sum_by_push f done mark)
+
+pub one_counted : {S H : Type 0} (result : Result (Unit {0}) AllocError) (passed : CountedRecord) (lists : Bool) (shown : List ℕ) (old : RowCounter S H) (row : BlockRow S H) (places : MutBor (List ℕ)) (plain abbreviated : ℕ) → row ≡ with_codes row.codes old.row.now
+    → ((tallies : List CodeTally) → code_tallies old.row.now.codes ≡ map cut_code tallies → OnOk result (code_tallies row.codes ≡ map cut_code (with_use passed.code (passed.after - passed.first) tallies)))
+    → plain ≡ min (old.plain + (if leb 4 passed.id then 0 else 1)) 18446744073709551615 → abbreviated ≡ min (old.abbreviated + (if leb 4 passed.id then 1 else 0)) 18446744073709551615
+    → OnOk result ((mark : RecordMark) → IsMarkOf true lists passed shown mark → (first : RowCounter S H) (done : List RecordMark) → CountsBehind first done old
+    → CountsBehind first (done ++ mark ∷ []) (record { row = record old.row { now = row }; places = places; plain = plain; abbreviated = abbreviated }))
+one_counted (Err e) passed lists shown old row places plain abbreviated row_is used plain_is abbreviated_is = tt
+one_counted (Ok x) passed lists shown old row places plain abbreviated row_is used plain_is abbreviated_is = λ mark is first done was.
+    subst (λ (m : RecordMark). CountsBehind first (done ++ m ∷ []) (record { row = record old.row { now = row }; places = places; plain = plain; abbreviated = abbreviated })) (told_as passed lists shown mark is)
+    (one_passed (Ok x) passed old row places plain abbreviated row_is used plain_is abbreviated_is mark.values is.count first done was)
 
 -- nothing was counted
 pub none_counted : {S H : Type 0} (counter : RowCounter S H) → counter.plain < 18446744073709551616 → counter.abbreviated < 18446744073709551616 → CountsBehind counter [] counter
@@ -226,8 +243,3 @@ run_gathered Passes (Ok run) old new blocks x found passed = (
       (passed.2 (count_events done no_counts).rows (ap (λ (c : Counts). c.rows) was)),
 )
 run_gathered Passes (Err e) old new blocks x found passed = tt
-
--- two facts of a result as one
-pub both_told : {T : Type 0} (Less Passes : T → Type 0) (result : Result T AllocError) → IfOk result Less → IfOk result Passes → IfOk result (λ run. Less run × Passes run)
-both_told Less Passes (Ok run) less passed = (less, passed)
-both_told Less Passes (Err e) less passed = tt

@@ -8,14 +8,8 @@ ghost use Rattle.bit_scan.specs.Rows.{block_tallies};
 use crate::rows::{Addition, BlockRow, BlockRows};
 use bit_abbrev::{BlockDefinitions, Coming, HeldOps};
 use bit_events::{Gatherer, PassedRun};
-<<<<<<< /tmp/o
-use bit_fields::{PlacedBits, ValueCount, ValueTaker};
-use indexmap::IndexMap;
-||||||| /tmp/b
-use bit_fields::{PlacedBits, ValueCount, ValueTaker};
-=======
 use bit_fields::{ValueCount, ValueTaker};
->>>>>>> /tmp/t
+use indexmap::IndexMap;
 use std::alloc::{AllocError, Global};
 use std::hash::BuildHasher;
 use std::marker::Model;
@@ -108,6 +102,7 @@ impl<H: BuildHasher + Copy> Counter<H> {
 
     /// Counts an item of the innermost open block.
     #[inline(always)]
+    #[tactic(auto, using(crate::proofs::OpenBlocks::counted_here))]
     fn count_here(&mut self, addition: Addition) -> Result<(), AllocError>
         ensures { (counts : Counts) → self.old ≡ capped_counts counts
             → OnOk result (self.new ≡ capped_counts (added_here addition counts)) }
@@ -172,7 +167,11 @@ impl<H: BuildHasher + Copy> Gatherer for Counter<H> {
     }
 
     #[inline(always)]
-    fn pass(&mut self, next: Coming<'_>, definitions: BlockDefinitions<'_>) -> Result<PassedRun, AllocError> {
+    fn pass(
+        &mut self,
+        next: Coming<'_>,
+        definitions: &mut BlockDefinitions<'_>,
+    ) -> Result<PassedRun, AllocError> {
         match self.open.last() {
             Some(block) => self
                 .rows

@@ -94,6 +94,7 @@ pub(crate) fn write_values<K: Sink>(
 
 /// Writes the line of a record, piece by piece.
 #[inline(never)]
+#[tactic(auto, using(crate::proofs::Parted::no_first, crate::proofs::Parted::no_second, crate::proofs::Parted::third, crate::proofs::Parted::record_parts))]
 fn write_record_pieces<K: Sink>(
     printer: &mut Printer<K>,
     around: u32,
@@ -137,6 +138,7 @@ fn write_whole<K: Sink>(
 }
 
 /// Writes the line of a record.
+#[tactic(auto, using(crate::proofs::Prints::whole_printed, crate::proofs::Prints::pieces_follow))]
 fn write_record<K: Sink>(
     printer: &mut Printer<K>,
     around: u32,
@@ -251,6 +253,17 @@ impl<'a, K: Sink> ListingWriter<'a, K> {
 }
 
 impl<'a, K: Sink> RunCounter for ListingWriter<'a, K> {
+    ghost use Rattle.std.specs.Prelude.{◌≡◌, true};
+    ghost use Rattle.bit_events.specs.Passing.{GathersRecords};
+    ghost use Rattle.bit_scan.specs.Listing.{WroteLeft};
+
+    ghost counted = { GathersRecords (λ first events last. WroteLeft first.standing first.around first.printer events
+        last.standing last.around last.printer × (last.stopped ≡ first.stopped)) };
+
+    ghost asks = { true };
+
+    ghost lists = { true };
+
     #[inline(always)]
     fn count(&mut self, record: CountedRecord, values: &[u64]) -> Result<bool, AllocError> {
         if !self.standing.leaves_record(record.code) {
@@ -316,7 +329,11 @@ impl<'a, K: Sink> Gatherer for ListingWriter<'a, K> {
     }
 
     #[inline(always)]
-    fn pass(&mut self, next: Coming<'_>, definitions: BlockDefinitions<'_>) -> Result<PassedRun, AllocError> {
+    fn pass(
+        &mut self,
+        next: Coming<'_>,
+        definitions: &mut BlockDefinitions<'_>,
+    ) -> Result<PassedRun, AllocError> {
         list_records(next, definitions, self)
     }
 

@@ -7,20 +7,13 @@ ghost use Rattle.bit_scan.specs.Additions.{with_added};
 ghost use Rattle.bit_scan.specs.CodesView.{code_tallies, with_use, CountsUse};
 ghost use Rattle.bit_scan.specs.Cut.{cut_code, cut_row, cut_rows};
 ghost use Rattle.bit_grammar.specs.Marks.{RecordMark};
+ghost use Rattle.bit_abbrev.specs.BlockPlans.{all_of_block, KeepsBlock, StandsFor};
 ghost use Rattle.bit_fields.specs.PlacedView.{placed};
 ghost use Rattle.bit_events.specs.Passing.{PassesRecords};
 ghost use Rattle.bit_scan.specs.declared.rows.Addition.TheVariants as addition;
 ghost use Rattle.bit_scan.specs.Rows.{block_tally, block_tallies, rows_after, with_codes, with_run, AddsToRow, CountsInRow};
 
-<<<<<<< /tmp/o
-use bit_abbrev::InForce;
-||||||| /tmp/b
-use crate::links::{Keyed, Spot, find, is_at, lead};
-use bit_abbrev::InForce;
-=======
-use crate::links::{Keyed, Spot, find, is_at, lead};
 use bit_abbrev::{BlockDefinitions, Coming};
->>>>>>> /tmp/t
 use bit_events::{CountedRecord, PassedRun, RunCounter, pass_records};
 use bit_fields::PlacedBits;
 use indexmap::IndexMap;
@@ -322,8 +315,14 @@ struct RowCounter<'a, H: BuildHasher> {
 }
 
 impl<'a, H: BuildHasher> RunCounter for RowCounter<'a, H> {
+    ghost use Rattle.std.specs.Prelude.{true, false};
     ghost use Rattle.bit_scan.specs.Rows.{CountsBehind};
 
+    ghost counted = { λ first records last. CountsBehind first records last };
+
+    ghost asks = { true };
+
+    ghost lists = { false };
 
     #[inline(always)]
     fn count(&mut self, passed: CountedRecord, _values: &[u64]) -> Result<bool, AllocError> {
@@ -341,12 +340,17 @@ impl<H: BuildHasher> BlockRow<H> {
         &mut self,
         places: &mut CodePlaces,
         next: Coming<'_>,
-        definitions: BlockDefinitions<'_>,
+        definitions: &mut BlockDefinitions<'_>,
     ) -> Result<PassedRun, AllocError>
-        requires width { width ≤ 32 }
-        ensures { IfOk result (λ run. (records : List RecordMark)
+        requires stands { StandsFor definitions.old }
+        requires width { next.width ≤ 32 }
+        ensures same_reference { definitions.new.definitions.ghost_name ≡ definitions.old.definitions.ghost_name }
+        ensures marks { definitions.new.marks ≡ definitions.old.marks }
+        ensures keeps { KeepsBlock definitions.old.marks definitions.old.definitions.now
+            definitions.new.definitions.now }
+        ensures counts { IfOk result (λ run. (records : List RecordMark)
             × CountsInRow self.old records self.new
-            × PassesRecords width definitions.now.all room (placed bits.entry) records run) }
+            × PassesRecords next.entry.width (all_of_block definitions.old) next.entry.room (placed next.entry.bits) records run) }
     {
         let mut counter = RowCounter {
             row: self,
@@ -391,27 +395,24 @@ fn pass_at<H: BuildHasher>(
     places: &mut Places,
     place: usize,
     next: Coming<'_>,
-    definitions: BlockDefinitions<'_>,
+    definitions: &mut BlockDefinitions<'_>,
 ) -> Result<PassedRun, AllocError>
     requires within { place < index_map_len rows.old }
-    requires width { width ≤ 32 }
-    ensures { IfOk result (λ run. (records : List RecordMark)
-        × PassesRecords width definitions.now.all room (placed bits.entry) records run
+    requires stands { StandsFor definitions.old }
+    requires width { next.width ≤ 32 }
+    ensures same_reference { definitions.new.definitions.ghost_name ≡ definitions.old.definitions.ghost_name }
+    ensures marks { definitions.new.marks ≡ definitions.old.marks }
+    ensures keeps { KeepsBlock definitions.old.marks definitions.old.definitions.now
+        definitions.new.definitions.now }
+    ensures counts { IfOk result (λ run. (records : List RecordMark)
+        × PassesRecords next.entry.width (all_of_block definitions.old) next.entry.room (placed next.entry.bits) records run
         × ((id : ℕ) (tallies : List BlockTally)
         → slice_get (keys rows.old) place ≡ Some id
         → block_tallies rows.old.entries ≡ cut_rows tallies
         → block_tallies rows.new.entries ≡ cut_rows (rows_after records id tallies))) }
 {
-<<<<<<< /tmp/o
     let (_id, row) = rows.pair_mut(place);
-    row.pass(&mut places[place % 32], bits, width, definitions, room)
-||||||| /tmp/b
-    let (_, row) = &mut rows[place];
-    row.pass(&mut places[place % 32], bits, width, definitions, room)
-=======
-    let (_, row) = &mut rows[place];
     row.pass(&mut places[place % 32], next, definitions)
->>>>>>> /tmp/t
 }
 
 /// A row for each block id, in order of first entry.
@@ -505,24 +506,21 @@ impl<H: BuildHasher + Copy> BlockRows<H> {
         id: u32,
         place: usize,
         next: Coming<'_>,
-        definitions: BlockDefinitions<'_>,
+        definitions: &mut BlockDefinitions<'_>,
     ) -> Result<PassedRun, AllocError>
-        requires width { width ≤ 32 }
-        ensures { IfOk result (λ run. (records : List RecordMark)
-            × PassesRecords width definitions.now.all room (placed bits.entry) records run
+        requires stands { StandsFor definitions.old }
+        requires width { next.width ≤ 32 }
+        ensures same_reference { definitions.new.definitions.ghost_name ≡ definitions.old.definitions.ghost_name }
+        ensures marks { definitions.new.marks ≡ definitions.old.marks }
+        ensures keeps { KeepsBlock definitions.old.marks definitions.old.definitions.now
+            definitions.new.definitions.now }
+        ensures counts { IfOk result (λ run. (records : List RecordMark)
+            × PassesRecords next.entry.width (all_of_block definitions.old) next.entry.room (placed next.entry.bits) records run
             × ((tallies : List BlockTally) → block_tallies self.old.rows.entries ≡ cut_rows tallies
             → block_tallies self.new.rows.entries ≡ cut_rows (rows_after records id tallies))) }
     {
-<<<<<<< /tmp/o
         if !is_at(&self.rows, place, id) {
-            return Ok(PassedRun::none(bits, room));
-||||||| /tmp/b
-        if !is_at(&self.rows, place, u64::from(id)) {
-            return Ok(PassedRun::none(bits, room));
-=======
-        if !is_at(&self.rows, place, u64::from(id)) {
             return Ok(PassedRun::none(next));
->>>>>>> /tmp/t
         }
         pass_at(
             &mut self.rows,

@@ -51,6 +51,7 @@ fn write_operands<K: Sink>(printer: &mut Printer<K>, ops: &[Op]) -> Result<(), F
 }
 
 /// Writes the line of a definition.
+#[tactic(auto, using(crate::proofs::Parted::no_first, crate::proofs::Parted::no_second, crate::proofs::Parted::third, crate::proofs::Parted::definition_parts))]
 fn write_definition<K: Sink>(
     printer: &mut Printer<K>,
     around: u32,
@@ -81,6 +82,7 @@ fn write_shown<K: Sink>(
 
 /// Writes the line of a record, piece by piece.
 #[inline(never)]
+#[tactic(auto, using(crate::proofs::Parted::no_first, crate::proofs::Parted::no_second, crate::proofs::Parted::third, crate::proofs::Parted::noted_parts))]
 fn write_noted_pieces<K: Sink>(
     printer: &mut Printer<K>,
     around: u32,
@@ -131,6 +133,7 @@ fn write_noted_whole<K: Sink>(
 }
 
 /// Writes the line of a record.
+#[tactic(auto, using(crate::proofs::Prints::whole_printed, crate::proofs::Prints::pieces_follow))]
 fn write_noted<K: Sink>(
     printer: &mut Printer<K>,
     around: u32,
@@ -349,6 +352,7 @@ fn write_json_whole<K: Sink>(
 }
 
 /// Writes the line of a record with its values as JSON.
+#[tactic(auto, using(crate::proofs::Prints::whole_printed, crate::proofs::Prints::pieces_follow))]
 fn write_json_values<K: Sink>(
     printer: &mut Printer<K>,
     around: u32,
@@ -631,6 +635,17 @@ impl<K: Sink> EventWriter<K> {
 }
 
 impl<K: Sink> RunCounter for EventWriter<K> {
+    ghost use Rattle.std.specs.Prelude.{◌≡◌, true};
+    ghost use Rattle.bit_events.specs.Passing.{GathersRecords};
+    ghost use Rattle.bit_scan.specs.Telling.{WroteLines};
+
+    ghost counted = { GathersRecords (λ first events last. WroteLines first.style first.around first.printer events
+        last.around last.printer × (last.style ≡ first.style) × (last.stopped ≡ first.stopped)) };
+
+    ghost asks = { true };
+
+    ghost lists = { true };
+
     #[inline(always)]
     fn count(&mut self, record: CountedRecord, values: &[u64]) -> Result<bool, AllocError> {
         let noted = Noted {
@@ -709,7 +724,11 @@ impl<K: Sink> Gatherer for EventWriter<K> {
     }
 
     #[inline(always)]
-    fn pass(&mut self, next: Coming<'_>, definitions: BlockDefinitions<'_>) -> Result<PassedRun, AllocError> {
+    fn pass(
+        &mut self,
+        next: Coming<'_>,
+        definitions: &mut BlockDefinitions<'_>,
+    ) -> Result<PassedRun, AllocError> {
         list_records(next, definitions, self)
     }
 

@@ -601,7 +601,7 @@ static MARKED: [(&str, &str, &str); 4] = [
         "Marked { head: Head { magic: [66, 67, 192, 222], wrapper: None }, blocks: MarkedBlocks([\
         MarkedBlock { id: 0, width: 2, first: 32, body: 96, after: 160, items: MarkedItems([\
         Record(MarkedRecord { abbrev: 3, code: 1, values: Values([8]), first: 96, after: 116 }), \
-        Define(MarkedDefine { abbrev: Abbrev { ops: [Literal(1), Fixed(7)], usable: true, tail: Nothing }, first: 116, after: 141 })]) }, \
+        Define(MarkedDefine { abbrev: Abbrev { ops: [Literal(1), Fixed(7)], usable: true }, first: 116, after: 141 })]) }, \
         MarkedBlock { id: 8, width: 3, first: 160, body: 224, after: 256, items: MarkedItems([\
         Record(MarkedRecord { abbrev: 4, code: 1, values: Values([100]), first: 224, after: 234 })]) }]), after: 256 }",
     ),
@@ -611,7 +611,7 @@ static MARKED: [(&str, &str, &str); 4] = [
         "Marked { head: Head { magic: [66, 67, 192, 222], wrapper: None }, blocks: MarkedBlocks([\
         MarkedBlock { id: 0, width: 2, first: 32, body: 96, after: 160, items: MarkedItems([\
         Record(MarkedRecord { abbrev: 3, code: 1, values: Values([8]), first: 96, after: 116 }), \
-        Define(MarkedDefine { abbrev: Abbrev { ops: [Literal(1), Fixed(7)], usable: true, tail: Nothing }, first: 116, after: 141 })]) }, \
+        Define(MarkedDefine { abbrev: Abbrev { ops: [Literal(1), Fixed(7)], usable: true }, first: 116, after: 141 })]) }, \
         MarkedBlock { id: 8, width: 3, first: 160, body: 224, after: 352, items: MarkedItems([\
         Block(MarkedBlock { id: 9, width: 4, first: 224, body: 288, after: 320, items: MarkedItems([]) }), \
         Record(MarkedRecord { abbrev: 4, code: 1, values: Values([100]), first: 320, after: 330 })]) }]), after: 352 }",

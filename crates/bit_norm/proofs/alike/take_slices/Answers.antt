@@ -12,11 +12,6 @@ returns-in-Some g c =
     let next = rw (c.in-Some.is) at c.in_ok-stop.ensures in
     stops_then c.args.first.now c.in-Some.stop c.args.slices.now c.loop-slices.slices c.take_slice.new.slices (g.S.Source.incoming c.args.source.now) (g.S.Source.incoming c.loop-slices.source) (g.S.Source.incoming c.take_slice.new.source) c.loop-slices.invariant next
 
-pub returns-else-has_room : goal.returns-else-has_room
-returns-else-has_room g c =
-    let more = c.loop-slices.invariant in
-    (more, goes_no_further c.args.first.now c.args.slices.now c.loop-slices.slices (g.S.Source.incoming c.args.source.now) (g.S.Source.incoming c.loop-slices.source) more)
-
 pub returns-after-loop-slices : goal.returns-after-loop-slices
 returns-after-loop-slices g c =
     let more = c.loop-slices.invariant in

@@ -1,7 +1,7 @@
 use Rattle.std.proofs.Common.{[], Some, refl}
 use Rattle.bit_grammar.specs.Setting.{setting_of}
 use Rattle.bit_norm.proofs.CheckedBytes.{checked_ended, checked_front, checked_same}
-use Rattle.bit_norm.proofs.alike.compare_noting.Goals as goal
+use Rattle.bit_norm.proofs.alike.compare_checked.Goals as goal
 
 pub returns-in-Ok-Same : goal.returns-in-Ok-Same
 returns-in-Ok-Same g c = checked_same c.args.judged (setting_of c.args.info) c.args.limits c.args.first.now (g.S.Source.incoming c.args.source) (g.S.Source.incoming c.take_beginning.new.source) c.confirm.result (rw c.in-Ok-Same.field-0-is at c.in-Ok-Same.ensures) c.confirm.ensures
