@@ -26,3 +26,4 @@ pub mod Noted
 pub mod Objects
 pub mod Determined
 pub mod Batches
+pub mod ListedRuns

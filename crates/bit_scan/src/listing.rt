@@ -121,19 +121,20 @@ pub(crate) fn few_of(values: &PackedValues) -> Option<&[u64]>
     }
 }
 
-/// Writes the line of a record at once, if it has few values and the buffered text is not to be put then. Returns whether it did.
+/// Writes the line of a record at once, if it has few values, the buffered text is not to be put then, and there is memory for it.
+/// Returns whether it did.
 #[inline(always)]
 fn write_whole<K: Sink>(
     printer: &mut Printer<K>,
     around: u32,
     code: u64,
     values: &PackedValues,
-) -> Result<bool, Fault>
+) -> bool
     ensures { PrintsWhole (record_line around code values.now) printer.old result printer.new }
 {
     match few_of(values) {
         Some(few) => printer.record_line(around, code, few),
-        None => Ok(false),
+        None => false,
     }
 }
 
@@ -147,7 +148,7 @@ fn write_record<K: Sink>(
 ) -> Result<(), Fault>
     ensures { Prints (record_line around code values.now) printer.old result printer.new }
 {
-    if write_whole(printer, around, code, values)? {
+    if write_whole(printer, around, code, values) {
         return Ok(());
     }
     write_record_pieces(printer, around, code, values)
@@ -253,7 +254,7 @@ impl<'a, K: Sink> ListingWriter<'a, K> {
 }
 
 impl<'a, K: Sink> RunCounter for ListingWriter<'a, K> {
-    ghost use Rattle.std.specs.Prelude.{◌≡◌, true};
+    ghost use Rattle.std.specs.Prelude.{◌≡◌, true, false};
     ghost use Rattle.bit_events.specs.Passing.{GathersRecords};
     ghost use Rattle.bit_scan.specs.Listing.{WroteLeft};
 
@@ -264,18 +265,17 @@ impl<'a, K: Sink> RunCounter for ListingWriter<'a, K> {
 
     ghost lists = { true };
 
+    ghost may_fail = { false };
+
     #[inline(always)]
-    fn count(&mut self, record: CountedRecord, values: &[u64]) -> Result<bool, AllocError> {
-        if !self.standing.leaves_record(record.code) {
+    fn count(&mut self, passed: CountedRecord, values: &[u64]) -> Result<bool, AllocError> {
+        if !self.standing.leaves_record(passed.code) {
             return Ok(true);
         }
-        match self.printer.record_line(self.around, record.code, values) {
-            Ok(is_added) => Ok(is_added),
-            Err(fault) => {
-                self.stopped = Some(fault);
-                Err(AllocError)
-            }
+        if values.len() > BATCH {
+            return Ok(false);
         }
+        Ok(self.printer.record_line(self.around, passed.code, values))
     }
 }
 

@@ -20,6 +20,7 @@ use crate::format::{EventStyle, Format};
 use crate::listing::{around_after, few_of, kept, write_values};
 use crate::printer::Printer;
 use crate::record_lines::{Noted, Opened};
+use crate::text_buffer::BATCH;
 use bit_abbrev::{Abbrev, BlockDefinitions, Coming, HeldOps};
 use bit_events::{CountedRecord, Event, Gatherer, PackedEvent, PackedEvents, PassedRun, RunCounter, list_records};
 use bit_fields::{Fault, Head, Limits, PackedValues, Reason, Sink, Source, WideSlice};
@@ -120,7 +121,7 @@ fn write_noted_whole<K: Sink>(
     noted: Noted,
     values: ValueDisplay,
     listed: &PackedValues,
-) -> Result<bool, Fault>
+) -> bool
     requires { noted.count ≡ length listed.now }
     ensures { PrintsWhole (line_at noted.first around
         (noted_text values noted.code noted.abbreviation listed.now)) printer.old result
@@ -128,7 +129,7 @@ fn write_noted_whole<K: Sink>(
 {
     match shown_of(values, listed) {
         Some(shown) => printer.noted_record(around, noted, shown),
-        None => Ok(false),
+        None => false,
     }
 }
 
@@ -146,7 +147,7 @@ fn write_noted<K: Sink>(
         (noted_text values noted.code noted.abbreviation listed.now)) printer.old result
         printer.new }
 {
-    if write_noted_whole(printer, around, noted, values, listed)? {
+    if write_noted_whole(printer, around, noted, values, listed) {
         return Ok(());
     }
     write_noted_pieces(printer, around, noted, values, listed)
@@ -340,14 +341,14 @@ fn write_json_whole<K: Sink>(
     around: u32,
     noted: Noted,
     values: &PackedValues,
-) -> Result<bool, Fault>
+) -> bool
     ensures { PrintsWhole (list_line (codes "record")
         (noted_fields around noted.first noted.code noted.abbreviation noted.count)
         (codes "values") (joined number_json values.now)) printer.old result printer.new }
 {
     match few_of(values) {
         Some(few) => printer.json_record(around, noted, few),
-        None => Ok(false),
+        None => false,
     }
 }
 
@@ -363,7 +364,7 @@ fn write_json_values<K: Sink>(
         (noted_fields around noted.first noted.code noted.abbreviation noted.count)
         (codes "values") (joined number_json values.now)) printer.old result printer.new }
 {
-    if write_json_whole(printer, around, noted, values)? {
+    if write_json_whole(printer, around, noted, values) {
         return Ok(());
     }
     write_json_pieces(printer, around, noted, values)
@@ -528,7 +529,7 @@ fn write_noted_few<K: Sink>(
     noted: Noted,
     values: ValueDisplay,
     few: &[u64],
-) -> Result<bool, Fault>
+) -> bool
     requires count { noted.count ≡ length few.now }
     requires few { length few.now ≤ 64 }
     ensures { PrintsWhole (line_at noted.first around
@@ -545,7 +546,7 @@ fn write_json_few<K: Sink>(
     noted: Noted,
     values: ValueDisplay,
     few: &[u64],
-) -> Result<bool, Fault>
+) -> bool
     requires { length few.now ≤ 64 }
     ensures { PrintsWhole (noted_json values
         (noted_fields around noted.first noted.code noted.abbreviation noted.count) few.now)
@@ -553,10 +554,7 @@ fn write_json_few<K: Sink>(
 {
     match values {
         ValueDisplay::Shown => printer.json_record(around, noted, few),
-        ValueDisplay::LeftOut => {
-            printer.noted_line(around, noted)?;
-            Ok(true)
-        }
+        ValueDisplay::LeftOut => printer.json_noted(around, noted),
     }
 }
 
@@ -568,7 +566,7 @@ fn write_few<K: Sink>(
     noted: Noted,
     few: &[u64],
     style: EventStyle,
-) -> Result<bool, Fault>
+) -> bool
     requires count { noted.count ≡ length few.now }
     requires few { length few.now ≤ 64 }
     ensures { (after : ℕ) → PrintsWhole (styled_event style around (notes (record {
@@ -635,7 +633,7 @@ impl<K: Sink> EventWriter<K> {
 }
 
 impl<K: Sink> RunCounter for EventWriter<K> {
-    ghost use Rattle.std.specs.Prelude.{◌≡◌, true};
+    ghost use Rattle.std.specs.Prelude.{◌≡◌, true, false};
     ghost use Rattle.bit_events.specs.Passing.{GathersRecords};
     ghost use Rattle.bit_scan.specs.Telling.{WroteLines};
 
@@ -646,21 +644,20 @@ impl<K: Sink> RunCounter for EventWriter<K> {
 
     ghost lists = { true };
 
+    ghost may_fail = { false };
+
     #[inline(always)]
-    fn count(&mut self, record: CountedRecord, values: &[u64]) -> Result<bool, AllocError> {
-        let noted = Noted {
-            first: record.first,
-            code: record.code,
-            abbreviation: record.id as u32,
-            count: record.count,
-        };
-        match write_few(&mut self.printer, self.around, noted, values, self.style) {
-            Ok(is_added) => Ok(is_added),
-            Err(fault) => {
-                self.stopped = Some(fault);
-                Err(AllocError)
-            }
+    fn count(&mut self, passed: CountedRecord, values: &[u64]) -> Result<bool, AllocError> {
+        if passed.id > u64::from(u32::MAX) || values.len() > BATCH {
+            return Ok(false);
         }
+        let noted = Noted {
+            first: passed.first,
+            code: passed.code,
+            abbreviation: passed.id as u32,
+            count: values.len() as u64,
+        };
+        Ok(write_few(&mut self.printer, self.around, noted, values, self.style))
     }
 }
 

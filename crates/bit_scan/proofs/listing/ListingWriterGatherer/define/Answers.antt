@@ -1,6 +1,6 @@
-use Rattle.bit_grammar.specs.Machine.{defines}
-use Rattle.bit_scan.proofs.Lists.{wrote_line}
+use Rattle.bit_abbrev.specs.HeldPlaces.{ops_of}
+use Rattle.bit_scan.proofs.ListedRuns.{defined_left}
 use Rattle.bit_scan.proofs.listing.ListingWriterGatherer.define.Goals as goal
 
 pub returns-clause-gathers : goal.returns-clause-gathers
-returns-clause-gathers g c = wrote_line (λ w. w.standing) (λ w. w.around) (λ w. w.printer) (λ w. w.stopped) c.args.self.now c.write.new.self (defines (record { ops = c.args.«abbrev».now; first = c.args.first; after = c.args.after })) c.write.result c.write.ensures.written c.write.ensures.stopped c.write.ensures.stands c.write.ensures.around
+returns-clause-gathers g c = defined_left (λ w. w.standing) (λ w. w.around) (λ w. w.printer) (λ w. w.stopped) c.args.self.now (record { ops = ops_of c.args._ops.places.now; first = c.args._first; after = c.args._after })
