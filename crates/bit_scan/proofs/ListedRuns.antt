@@ -1,5 +1,5 @@
 -- Runs of records whose lines are written, and definitions.
-use Rattle.std.proofs.Common.{◌≡◌, ◌∙◌, ℕ, ◌<◌, Bool, true, false, List, [], ◌∷◌, ◌++◌, Option, Result, Ok, Err, map, refl, sym, ap, subst, append_assoc, absurd, true≢false}
+use Rattle.std.proofs.Common.{◌≡◌, ◌∙◌, ℕ, ◌<◌, Bool, true, false, List, [], ◌∷◌, ◌++◌, Option, Result, Ok, Err, map, refl, sym, ap, subst, append_assoc, true≢false}
 use Rattle.std.specs.Prelude.{IfOk, OnErr, OnOk, if◌then◌else◌}
 use Rattle.std.specs.declared.alloc.AllocError.{AllocError}
 use Rattle.std.proofs.lemmas.List.{map-append}
@@ -34,10 +34,10 @@ open_split (event ∷ done) rest count = open_split done rest (open_after event 
 gathers_one : {G : Type 0} (gathered : G → List Event → G → Type 0) (old : G) (mark : RecordMark) (new : G) → Gathers gathered old (notes mark) new → CountsOne (GathersRecords gathered) old mark new
 gathers_one gathered old mark new one = λ first records so begun done was some.
     let events = done ++ map notes records in
-    let open : left_open events ≡ left_open done = open_split done (map notes records) 0 ∙ open_still records (left_open done) in
+    let as_many : left_open events ≡ left_open done = open_split done (map notes records) 0 ∙ open_still records (left_open done) in
     subst (λ (all : List Event). gathered begun all new)
     (append_assoc done (map notes records) (notes mark ∷ []) ∙ ap (λ (l : List Event). done ++ l) (sym (map-append notes records (mark ∷ []))))
-    (one begun events 0 (so begun done was some) (subst (λ (n : ℕ). 0 < n) (sym open) some))
+    (one begun events 0 (so begun done was some) (subst (λ (n : ℕ). 0 < n) (sym as_many) some))
 
 -- a record whose code and values were told
 told_is : (passed : CountedRecord) (shown : List ℕ) (mark : RecordMark) → IsMarkOf true true passed shown mark → mark_of passed shown ≡ mark
@@ -52,7 +52,7 @@ pub run_told : {G : Type 0} (gathered : G → List Event → G → Type 0) (defi
 run_told gathered definitions next old new result so = counted_gathered (GathersRecords gathered) gathered definitions next old new old new result (λ records all. all old [] (none_gathered gathered old)) so
 
 -- a call that never fails did not
-pub never_fails : {T : Type 0} {P : Type 0} (result : Result T AllocError) → OnErr result (false ≡ true) → OnErr result P
+pub never_fails : {T : Type 0} (result : Result T AllocError) → OnErr result (false ≡ true) → OnErr result ⊥
 never_fails (Ok v) fails = tt
 never_fails (Err e) fails = absurd (true≢false (sym fails))
 
