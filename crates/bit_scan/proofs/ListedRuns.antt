@@ -1,6 +1,6 @@
 -- Runs of records whose lines are written, and definitions.
 use Rattle.std.proofs.Common.{◌≡◌, ◌∙◌, ℕ, ◌<◌, Bool, true, false, List, [], ◌∷◌, ◌++◌, Option, Result, Ok, Err, map, refl, sym, ap, subst, append_assoc, true≢false}
-use Rattle.std.specs.Prelude.{IfOk, OnErr, OnOk, if◌then◌else◌}
+use Rattle.std.specs.Prelude.{IfOk, OnErr, if◌then◌else◌}
 use Rattle.std.specs.declared.alloc.AllocError.{AllocError}
 use Rattle.std.proofs.lemmas.List.{map-append}
 use Rattle.bit_grammar.specs.declared.op.Op.{Op}

@@ -1,5 +1,6 @@
 ghost use Rattle.std.specs.Prelude.{◌≡◌, ◌≤◌, ◌++◌, [], length, Some, None, IfSome, OnErr, OnOk};
 ghost use Rattle.std.proofs.Math.ListN.{replicate};
+ghost use Rattle.bit_grammar.specs.EventTexts.{shown_values};
 ghost use Rattle.bit_grammar.specs.Steps.{open_after};
 ghost use Rattle.bit_grammar.specs.Setting.{setting_of};
 ghost use Rattle.bit_grammar.specs.Texts.{values_text, record_line, event_text};
@@ -14,9 +15,12 @@ ghost use Rattle.bit_events.specs.Standing.{stands_after};
 use crate::printer::Printer;
 use crate::text_buffer::BATCH;
 use bit_abbrev::{BlockDefinitions, Coming, HeldOps};
-use bit_events::{CountedRecord, Event, Gatherer, OpenBlocks, PackedEvent, PackedEvents, PassedRun, RunCounter, list_records};
+use bit_events::{
+    CountedRecord, Event, Gatherer, OpenBlocks, PackedEvent, PackedEvents, PassedRun, RunCounter,
+    list_records,
+};
 use bit_fields::{Fault, Limits, PackedValues, Sink, SliceSource, WideSlice};
-use bit_grammar::Info;
+use bit_grammar::{Info, ValueDisplay};
 use std::alloc::{AllocError, Global};
 
 /// Writes byte values.
@@ -118,6 +122,31 @@ pub(crate) fn few_of(values: &PackedValues) -> Option<&[u64]>
         Some(recent)
     } else {
         None
+    }
+}
+
+/// The values of a record that are shown, if they are few and held as numbers.
+#[inline(always)]
+pub(crate) fn shown_of(values: ValueDisplay, listed: &PackedValues) -> Option<&[u64]>
+    ensures { IfSome result (λ shown. (values_text shown.now ≡ shown_values values listed.now)
+        × (length shown.now ≤ 64)) }
+{
+    match values {
+        ValueDisplay::Shown => few_of(listed),
+        ValueDisplay::LeftOut => Some(&[]),
+    }
+}
+
+/// The values of a record that are shown, of few.
+#[inline(always)]
+pub(crate) fn shown_few(values: ValueDisplay, few: &[u64]) -> &[u64]
+    requires { length few.now ≤ 64 }
+    ensures shown { values_text result.now ≡ shown_values values few.now }
+    ensures few { length result.now ≤ 64 }
+{
+    match values {
+        ValueDisplay::Shown => few,
+        ValueDisplay::LeftOut => &[],
     }
 }
 

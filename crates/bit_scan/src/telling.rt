@@ -1,9 +1,8 @@
 //! The events of an input as lines, written as they are read.
 
-ghost use Rattle.std.specs.Prelude.{◌≡◌, ℕ, ◌≤◌, ◌<◌, ◌+◌, ◌^◌, ◌++◌, IfSome, OnOk, [], codes, flat_map, length, OnErr, Some, None};
+ghost use Rattle.std.specs.Prelude.{◌≡◌, ℕ, ◌≤◌, ◌<◌, ◌+◌, ◌^◌, ◌++◌, OnOk, [], codes, flat_map, length, OnErr, Some, None};
 ghost use Rattle.std.proofs.Math.ListN.{replicate};
 ghost use Rattle.bit_grammar.specs.EventTexts.{line_at, op_text, ops_text, shown_values, noted_text, event_line};
-ghost use Rattle.bit_grammar.specs.Texts.{values_text};
 ghost use Rattle.bit_grammar.specs.Machine.{notes};
 ghost use Rattle.bit_grammar.specs.Steps.{open_after};
 ghost use Rattle.bit_grammar.specs.declared.op.Op.{Op};
@@ -17,12 +16,14 @@ ghost use Rattle.bit_scan.specs.Telling.{FailsLine, PrintsLast, TellsRest, Tells
 
 use crate::analysing::begin_of;
 use crate::format::{EventStyle, Format};
-use crate::listing::{around_after, few_of, kept, write_values};
+use crate::listing::{around_after, few_of, kept, shown_few, shown_of, write_values};
 use crate::printer::Printer;
 use crate::record_lines::{Noted, Opened};
 use crate::text_buffer::BATCH;
 use bit_abbrev::{Abbrev, BlockDefinitions, Coming, HeldOps};
-use bit_events::{CountedRecord, Event, Gatherer, PackedEvent, PackedEvents, PassedRun, RunCounter, list_records};
+use bit_events::{
+    CountedRecord, Event, Gatherer, PackedEvent, PackedEvents, PassedRun, RunCounter, list_records,
+};
 use bit_fields::{Fault, Head, Limits, PackedValues, Reason, Sink, Source, WideSlice};
 use bit_grammar::{Op, ValueDisplay};
 use std::alloc::{AllocError, Global};
@@ -99,18 +100,6 @@ fn write_noted_pieces<K: Sink>(
     printer.noted_head(around, noted)?;
     write_shown(printer, values, listed)?;
     printer.line_end()
-}
-
-/// The values of a record that are shown, if they are few and held as numbers.
-#[inline(always)]
-fn shown_of(values: ValueDisplay, listed: &PackedValues) -> Option<&[u64]>
-    ensures { IfSome result (λ shown. (values_text shown.now ≡ shown_values values listed.now)
-        × (length shown.now ≤ 64)) }
-{
-    match values {
-        ValueDisplay::Shown => few_of(listed),
-        ValueDisplay::LeftOut => Some(&[]),
-    }
 }
 
 /// Writes the line of a record at once, if it shows few values and the buffered text is not to be put then. Returns whether it did.
@@ -505,19 +494,6 @@ fn write_last<K: Sink>(printer: &mut Printer<K>, format: Format, fault: Fault) -
     match write_end(printer, format, fault) {
         Ok(()) => fault,
         Err(other) => other,
-    }
-}
-
-/// The values of a record that are shown, of few.
-#[inline(always)]
-fn shown_few(values: ValueDisplay, few: &[u64]) -> &[u64]
-    requires { length few.now ≤ 64 }
-    ensures shown { values_text result.now ≡ shown_values values few.now }
-    ensures few { length result.now ≤ 64 }
-{
-    match values {
-        ValueDisplay::Shown => few,
-        ValueDisplay::LeftOut => &[],
     }
 }
 
