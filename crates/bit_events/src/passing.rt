@@ -1,6 +1,6 @@
 //! Runs of records that are walked over in buffered bits.
 
-ghost use Rattle.std.specs.Prelude.{◌≡◌, ◌+◌, ◌<◌, ◌≤◌, true, false, ℕ, List, [], IfSome, IfOk, length};
+ghost use Rattle.std.specs.Prelude.{◌≡◌, ◌+◌, ◌<◌, ◌≤◌, true, false, ℕ, List, [], IfSome, IfOk, OnErr, length};
 ghost use Rattle.bit_grammar.specs.declared.op.Op.{Op};
 ghost use Rattle.bit_grammar.specs.Marks.{RecordMark};
 ghost use Rattle.bit_grammar.specs.Fields.{fixed};
@@ -55,7 +55,7 @@ pub struct CountedRecord {
 
 /// Takes records that are walked over.
 pub trait RunCounter {
-    ghost use Rattle.std.specs.Prelude.{Bool, List};
+    ghost use Rattle.std.specs.Prelude.{Bool, List, true};
     ghost use Rattle.bit_grammar.specs.Marks.{RecordMark};
 
     // Whether counting these records, in order, turns the one into the other.
@@ -67,12 +67,16 @@ pub trait RunCounter {
     // Whether it goes by their values.
     ghost lists: { Bool };
 
+    // Whether `count` may fail.
+    ghost may_fail: { Bool } = { true };
+
     /// Takes a record, with its values if they were wanted, or returns `false` and leaves it: then it is not walked over.
     fn count(&mut self, passed: CountedRecord, values: &[u64]) -> Result<bool, AllocError>
         requires { passed.first ≤ passed.after }
         ensures counts { IfOk result (λ counts. counts ≡ true → (mark : RecordMark)
             → IsMarkOf asks lists passed values.now mark → CountsOne counted self.old mark self.new) }
-        ensures leaves { IfOk result (λ counts. counts ≡ false → self.new ≡ self.old) };
+        ensures leaves { IfOk result (λ counts. counts ≡ false → self.new ≡ self.old) }
+        ensures fails { OnErr result (may_fail ≡ true) };
 }
 
 /// Takes nothing.
@@ -103,8 +107,9 @@ fn hand_on<'a, R: RunCounter>(
 ) -> Result<Option<Coming<'a>>, AllocError>
     requires within { next.width + walked.len ≤ length (placed next.bits).bits }
     requires few { walked.count ≤ next.room }
-    ensures { IfOk result (HandsOn R.counted R.asks R.lists id next.entry walked values.now counter.old
+    ensures hands { IfOk result (HandsOn R.counted R.asks R.lists id next.entry walked values.now counter.old
         counter.new) }
+    ensures fails { OnErr result (R.may_fail ≡ true) }
 {
     let Coming {
         bits,
@@ -162,6 +167,7 @@ fn walk_next<'a, C, V: Walker<C>, R: RunCounter>(
         cells.new step) }
     ensures moves { IfOk result (λ step. IfSome step (λ behind.
         length (placed behind.bits).bits < length (placed next.entry.bits).bits)) }
+    ensures fails { OnErr result (R.may_fail ≡ true) }
 {
     if by.is_split() && id == 3 {
         let Some(walked) = by.plain(cells, next) else {
@@ -197,6 +203,7 @@ pub fn walk_run<C, V: Walker<C>, R: RunCounter>(
     ensures walks { IfOk result (λ run. (definitions : List (List Op)) → V.knows by definitions
         → WalksRun (V.keeps by) (V.ends by) R.counted definitions first.entry counter.old cells.old
         run counter.new cells.new) }
+    ensures fails { OnErr result (R.may_fail ≡ true) }
 {
     let width = first.width;
     let mut at = first.at;
@@ -352,8 +359,9 @@ pub fn list_records<R: RunCounter>(
 ) -> Result<PassedRun, AllocError>
     requires stands { StandsFor definitions.now }
     requires width { next.width ≤ 32 }
-    ensures { IfOk result (λ run. CountsRun R.counted (all_of_block definitions.now) next.entry
+    ensures counts { IfOk result (λ run. CountsRun R.counted (all_of_block definitions.now) next.entry
         counter.old run counter.new) }
+    ensures fails { OnErr result (R.may_fail ≡ true) }
 {
     let by = Listing {
         definitions: &definitions.in_force(),

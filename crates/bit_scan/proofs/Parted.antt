@@ -95,7 +95,7 @@ noted_parts values around first code abbreviation vs = record { are = regrouped 
     regrouped a b c d e f g h i j = simp append_assoc
 
 -- the same, with the values that are shown
-pub noted_whole : (values : ValueDisplay) (around first code abbreviation count : ℕ) (vs shown : List ℕ) (old : Printing) (r : Result Bool Fault) (new : Printing) → count ≡ length vs → values_text shown ≡ shown_values values vs → PrintsWhole (noted_head around first code abbreviation count ++ (values_text shown ++ (10 ∷ []))) old r new → PrintsWhole (line_at first around (noted_text values code abbreviation vs)) old r new
+pub noted_whole : (values : ValueDisplay) (around first code abbreviation count : ℕ) (vs shown : List ℕ) (old : Printing) (r : Bool) (new : Printing) → count ≡ length vs → values_text shown ≡ shown_values values vs → PrintsWhole (noted_head around first code abbreviation count ++ (values_text shown ++ (10 ∷ []))) old r new → PrintsWhole (line_at first around (noted_text values code abbreviation vs)) old r new
 noted_whole values around first code abbreviation count vs shown old r new counted is p =
     let same : noted_head around first code abbreviation count ++ (values_text shown ++ (10 ∷ [])) ≡ line_at first around (noted_text values code abbreviation vs) = ap (λ (n : ℕ). noted_head around first code abbreviation n ++ (values_text shown ++ (10 ∷ []))) counted ∙ ap (λ (l : List ℕ). noted_head around first code abbreviation (length vs) ++ (l ++ (10 ∷ []))) is ∙ sym (noted_parts values around first code abbreviation vs).are in
     subst (λ (l : List ℕ). PrintsWhole l old r new) same p

@@ -29,16 +29,16 @@ piece_settled text old held (Ok v) r new is p wrong = settled text old held r ne
 piece_settled text old held (Err e) r new is p wrong = rw (wrong.0, wrong.1) (record { front = []; rest = old.held ++ text; split = refl; bytes = Appends-nil old.outgoing.bytes }, refl)
 
 -- a line was printed whole
-pub whole_printed : (line : List ℕ) (old new : Printing) (is_whole : Bool) → is_whole ≡ true → PrintsWhole line old (Ok is_whole) new → Printed line old new
+pub whole_printed : (line : List ℕ) (old new : Printing) (is_whole : Bool) → is_whole ≡ true → PrintsWhole line old is_whole new → Printed line old new
 whole_printed line old new true is p = p
 whole_printed line old new false is p = absurd (true≢false (sym is))
 
 -- it was not, and then it was printed piece by piece
-pub whole_left_out : (line : List ℕ) (old new : Printing) (is_whole : Bool) → is_whole ≡ false → PrintsWhole line old (Ok is_whole) new → new ≡ old
+pub whole_left_out : (line : List ℕ) (old new : Printing) (is_whole : Bool) → is_whole ≡ false → PrintsWhole line old is_whole new → new ≡ old
 whole_left_out line old new false is p = p
 whole_left_out line old new true is p = absurd (true≢false is)
 
-pub pieces_follow : (line : List ℕ) (old now new : Printing) (is_whole : Bool) (r : Result (Unit {0}) Fault) → is_whole ≡ false → PrintsWhole line old (Ok is_whole) now → Prints line now r new → Prints line old r new
+pub pieces_follow : (line : List ℕ) (old now new : Printing) (is_whole : Bool) (r : Result (Unit {0}) Fault) → is_whole ≡ false → PrintsWhole line old is_whole now → Prints line now r new → Prints line old r new
 pieces_follow line old now new false r is p q = subst (λ (w : Printing). Prints line w r new) p q
 pieces_follow line old now new true r is p q = absurd (true≢false is)
 

@@ -40,8 +40,7 @@ Prints text old (Err Read) new = ⊥
 Prints text old (Err OutputTooLong) new = ⊥
 Prints text old (Err Failed) new = ⊥
 
--- a line was printed whole, or left out because the buffered text would then have been put, or an allocation failed
-abbrev pub PrintsWhole : List ℕ → Printing → Result Bool Fault → Printing → Type 0
-PrintsWhole line old (Ok true) new = Printed line old new
-PrintsWhole line old (Ok false) new = new ≡ old
-PrintsWhole line old (Err fault) new = Prints line old (Err fault) new
+-- A line was printed whole; or it was left out, because the buffered text would then have been put, or there was no memory.
+abbrev pub PrintsWhole : List ℕ → Printing → Bool → Printing → Type 0
+PrintsWhole line old true new = Printed line old new
+PrintsWhole line old false new = new ≡ old

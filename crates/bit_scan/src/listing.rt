@@ -1,5 +1,6 @@
 ghost use Rattle.std.specs.Prelude.{◌≡◌, ◌≤◌, ◌++◌, [], length, Some, None, IfSome, OnErr, OnOk};
 ghost use Rattle.std.proofs.Math.ListN.{replicate};
+ghost use Rattle.bit_grammar.specs.EventTexts.{shown_values};
 ghost use Rattle.bit_grammar.specs.Steps.{open_after};
 ghost use Rattle.bit_grammar.specs.Setting.{setting_of};
 ghost use Rattle.bit_grammar.specs.Texts.{values_text, record_line, event_text};
@@ -14,9 +15,12 @@ ghost use Rattle.bit_events.specs.Standing.{stands_after};
 use crate::printer::Printer;
 use crate::text_buffer::BATCH;
 use bit_abbrev::{BlockDefinitions, Coming, HeldOps};
-use bit_events::{CountedRecord, Event, Gatherer, OpenBlocks, PackedEvent, PackedEvents, PassedRun, RunCounter, list_records};
+use bit_events::{
+    CountedRecord, Event, Gatherer, OpenBlocks, PackedEvent, PackedEvents, PassedRun, RunCounter,
+    list_records,
+};
 use bit_fields::{Fault, Limits, PackedValues, Sink, SliceSource, WideSlice};
-use bit_grammar::Info;
+use bit_grammar::{Info, ValueDisplay};
 use std::alloc::{AllocError, Global};
 
 /// Writes byte values.
@@ -121,19 +125,45 @@ pub(crate) fn few_of(values: &PackedValues) -> Option<&[u64]>
     }
 }
 
-/// Writes the line of a record at once, if it has few values and the buffered text is not to be put then. Returns whether it did.
+/// The values of a record that are shown, if they are few and held as numbers.
+#[inline(always)]
+pub(crate) fn shown_of(values: ValueDisplay, listed: &PackedValues) -> Option<&[u64]>
+    ensures { IfSome result (λ shown. (values_text shown.now ≡ shown_values values listed.now)
+        × (length shown.now ≤ 64)) }
+{
+    match values {
+        ValueDisplay::Shown => few_of(listed),
+        ValueDisplay::LeftOut => Some(&[]),
+    }
+}
+
+/// The values of a record that are shown, of few.
+#[inline(always)]
+pub(crate) fn shown_few(values: ValueDisplay, few: &[u64]) -> &[u64]
+    requires { length few.now ≤ 64 }
+    ensures shown { values_text result.now ≡ shown_values values few.now }
+    ensures few { length result.now ≤ 64 }
+{
+    match values {
+        ValueDisplay::Shown => few,
+        ValueDisplay::LeftOut => &[],
+    }
+}
+
+/// Writes the line of a record at once, if it has few values, the buffered text is not to be put then, and there is memory for it.
+/// Returns whether it did.
 #[inline(always)]
 fn write_whole<K: Sink>(
     printer: &mut Printer<K>,
     around: u32,
     code: u64,
     values: &PackedValues,
-) -> Result<bool, Fault>
+) -> bool
     ensures { PrintsWhole (record_line around code values.now) printer.old result printer.new }
 {
     match few_of(values) {
         Some(few) => printer.record_line(around, code, few),
-        None => Ok(false),
+        None => false,
     }
 }
 
@@ -147,7 +177,7 @@ fn write_record<K: Sink>(
 ) -> Result<(), Fault>
     ensures { Prints (record_line around code values.now) printer.old result printer.new }
 {
-    if write_whole(printer, around, code, values)? {
+    if write_whole(printer, around, code, values) {
         return Ok(());
     }
     write_record_pieces(printer, around, code, values)
@@ -253,7 +283,7 @@ impl<'a, K: Sink> ListingWriter<'a, K> {
 }
 
 impl<'a, K: Sink> RunCounter for ListingWriter<'a, K> {
-    ghost use Rattle.std.specs.Prelude.{◌≡◌, true};
+    ghost use Rattle.std.specs.Prelude.{◌≡◌, true, false};
     ghost use Rattle.bit_events.specs.Passing.{GathersRecords};
     ghost use Rattle.bit_scan.specs.Listing.{WroteLeft};
 
@@ -264,13 +294,16 @@ impl<'a, K: Sink> RunCounter for ListingWriter<'a, K> {
 
     ghost lists = { true };
 
+    ghost may_fail = { false };
+
     #[inline(always)]
-    fn count(&mut self, record: CountedRecord, values: &[u64]) -> Result<bool, AllocError> {
-        if !self.standing.leaves_record(record.code) {
+    fn count(&mut self, passed: CountedRecord, values: &[u64]) -> Result<bool, AllocError> {
+        if !self.standing.leaves_record(passed.code) {
             return Ok(true);
         }
         if values.len() > BATCH {
             return Ok(false);
+<<<<<<< HEAD
         }
         match self.printer.record_line(self.around, record.code, values) {
             Ok(is_added) => Ok(is_added),
@@ -278,7 +311,10 @@ impl<'a, K: Sink> RunCounter for ListingWriter<'a, K> {
                 self.stopped = Some(fault);
                 Err(AllocError)
             }
+=======
+>>>>>>> 231fd155726f5be8842bd12857aa73e2cfc2bd2b
         }
+        Ok(self.printer.record_line(self.around, passed.code, values))
     }
 }
 

@@ -239,21 +239,19 @@ impl<K: Sink> Printer<K> {
         self.settled(added)
     }
 
-    /// The line of a record of few values in a listing, unless the buffered text is to be put then. Returns whether it was printed.
+    /// The line of a record of few values in a listing, unless the buffered text is to be put then, or there is no
+    /// memory for it. Returns whether it was printed.
     #[inline(always)]
     pub(crate) fn record_line(
         &mut self,
         around: u32,
         code: u64,
         values: &[u64],
-    ) -> Result<bool, Fault>
+    ) -> bool
         requires { length values.now ≤ 64 }
         ensures { PrintsWhole (record_line around code values.now) self.old result self.new }
     {
-        match self.held.add_record(around, code, values) {
-            Ok(is_added) => Ok(is_added),
-            Err(AllocError) => Err(Fault::Memory),
-        }
+        self.held.add_record(around, code, values)
     }
 
     /// The same of the line of a record among events, with these values.
@@ -263,15 +261,12 @@ impl<K: Sink> Printer<K> {
         around: u32,
         noted: Noted,
         values: &[u64],
-    ) -> Result<bool, Fault>
+    ) -> bool
         requires { length values.now ≤ 64 }
         ensures { PrintsWhole (noted_head around noted.first noted.code noted.abbreviation noted.count
             ++ (values_text values.now ++ (10 ∷ []))) self.old result self.new }
     {
-        match self.held.add_noted(around, noted, values) {
-            Ok(is_added) => Ok(is_added),
-            Err(AllocError) => Err(Fault::Memory),
-        }
+        self.held.add_noted(around, noted, values)
     }
 
     /// The same as JSON.
@@ -281,16 +276,23 @@ impl<K: Sink> Printer<K> {
         around: u32,
         noted: Noted,
         values: &[u64],
-    ) -> Result<bool, Fault>
+    ) -> bool
         requires { length values.now ≤ 64 }
         ensures { PrintsWhole (list_line (codes "record")
             (noted_fields around noted.first noted.code noted.abbreviation noted.count)
             (codes "values") (joined number_json values.now)) self.old result self.new }
     {
-        match self.held.add_json_record(around, noted, values) {
-            Ok(is_added) => Ok(is_added),
-            Err(AllocError) => Err(Fault::Memory),
-        }
+        self.held.add_json_record(around, noted, values)
+    }
+
+    /// The same without values.
+    #[inline(always)]
+    pub(crate) fn json_noted(&mut self, around: u32, noted: Noted) -> bool
+        ensures { PrintsWhole (object_line (codes "record")
+            (noted_fields around noted.first noted.code noted.abbreviation noted.count)) self.old
+            result self.new }
+    {
+        self.held.add_json_noted(around, noted)
     }
 
     /// The end of a line.

@@ -1,9 +1,8 @@
 //! The events of an input as lines, written as they are read.
 
-ghost use Rattle.std.specs.Prelude.{◌≡◌, ℕ, ◌≤◌, ◌<◌, ◌+◌, ◌^◌, ◌++◌, IfSome, OnOk, [], codes, flat_map, length, OnErr, Some, None};
+ghost use Rattle.std.specs.Prelude.{◌≡◌, ℕ, ◌≤◌, ◌<◌, ◌+◌, ◌^◌, ◌++◌, OnOk, [], codes, flat_map, length, OnErr, Some, None};
 ghost use Rattle.std.proofs.Math.ListN.{replicate};
 ghost use Rattle.bit_grammar.specs.EventTexts.{line_at, op_text, ops_text, shown_values, noted_text, event_line};
-ghost use Rattle.bit_grammar.specs.Texts.{values_text};
 ghost use Rattle.bit_grammar.specs.Machine.{notes};
 ghost use Rattle.bit_grammar.specs.Steps.{open_after};
 ghost use Rattle.bit_grammar.specs.declared.op.Op.{Op};
@@ -17,12 +16,14 @@ ghost use Rattle.bit_scan.specs.Telling.{FailsLine, PrintsLast, TellsRest, Tells
 
 use crate::analysing::begin_of;
 use crate::format::{EventStyle, Format};
-use crate::listing::{around_after, few_of, kept, write_values};
+use crate::listing::{around_after, few_of, kept, shown_few, shown_of, write_values};
 use crate::printer::Printer;
 use crate::record_lines::{Noted, Opened};
 use crate::text_buffer::BATCH;
 use bit_abbrev::{Abbrev, BlockDefinitions, Coming, HeldOps};
-use bit_events::{CountedRecord, Event, Gatherer, PackedEvent, PackedEvents, PassedRun, RunCounter, list_records};
+use bit_events::{
+    CountedRecord, Event, Gatherer, PackedEvent, PackedEvents, PassedRun, RunCounter, list_records,
+};
 use bit_fields::{Fault, Head, Limits, PackedValues, Reason, Sink, Source, WideSlice};
 use bit_grammar::{Op, ValueDisplay};
 use std::alloc::{AllocError, Global};
@@ -101,18 +102,6 @@ fn write_noted_pieces<K: Sink>(
     printer.line_end()
 }
 
-/// The values of a record that are shown, if they are few and held as numbers.
-#[inline(always)]
-fn shown_of(values: ValueDisplay, listed: &PackedValues) -> Option<&[u64]>
-    ensures { IfSome result (λ shown. (values_text shown.now ≡ shown_values values listed.now)
-        × (length shown.now ≤ 64)) }
-{
-    match values {
-        ValueDisplay::Shown => few_of(listed),
-        ValueDisplay::LeftOut => Some(&[]),
-    }
-}
-
 /// Writes the line of a record at once, if it shows few values and the buffered text is not to be put then. Returns whether it did.
 #[inline(always)]
 fn write_noted_whole<K: Sink>(
@@ -121,7 +110,7 @@ fn write_noted_whole<K: Sink>(
     noted: Noted,
     values: ValueDisplay,
     listed: &PackedValues,
-) -> Result<bool, Fault>
+) -> bool
     requires { noted.count ≡ length listed.now }
     ensures { PrintsWhole (line_at noted.first around
         (noted_text values noted.code noted.abbreviation listed.now)) printer.old result
@@ -129,7 +118,7 @@ fn write_noted_whole<K: Sink>(
 {
     match shown_of(values, listed) {
         Some(shown) => printer.noted_record(around, noted, shown),
-        None => Ok(false),
+        None => false,
     }
 }
 
@@ -147,7 +136,7 @@ fn write_noted<K: Sink>(
         (noted_text values noted.code noted.abbreviation listed.now)) printer.old result
         printer.new }
 {
-    if write_noted_whole(printer, around, noted, values, listed)? {
+    if write_noted_whole(printer, around, noted, values, listed) {
         return Ok(());
     }
     write_noted_pieces(printer, around, noted, values, listed)
@@ -341,14 +330,14 @@ fn write_json_whole<K: Sink>(
     around: u32,
     noted: Noted,
     values: &PackedValues,
-) -> Result<bool, Fault>
+) -> bool
     ensures { PrintsWhole (list_line (codes "record")
         (noted_fields around noted.first noted.code noted.abbreviation noted.count)
         (codes "values") (joined number_json values.now)) printer.old result printer.new }
 {
     match few_of(values) {
         Some(few) => printer.json_record(around, noted, few),
-        None => Ok(false),
+        None => false,
     }
 }
 
@@ -364,7 +353,7 @@ fn write_json_values<K: Sink>(
         (noted_fields around noted.first noted.code noted.abbreviation noted.count)
         (codes "values") (joined number_json values.now)) printer.old result printer.new }
 {
-    if write_json_whole(printer, around, noted, values)? {
+    if write_json_whole(printer, around, noted, values) {
         return Ok(());
     }
     write_json_pieces(printer, around, noted, values)
@@ -508,19 +497,6 @@ fn write_last<K: Sink>(printer: &mut Printer<K>, format: Format, fault: Fault) -
     }
 }
 
-/// The values of a record that are shown, of few.
-#[inline(always)]
-fn shown_few(values: ValueDisplay, few: &[u64]) -> &[u64]
-    requires { length few.now ≤ 64 }
-    ensures shown { values_text result.now ≡ shown_values values few.now }
-    ensures few { length result.now ≤ 64 }
-{
-    match values {
-        ValueDisplay::Shown => few,
-        ValueDisplay::LeftOut => &[],
-    }
-}
-
 /// Writes the line of a record of few values at once, unless the buffered text is to be put then. Returns whether it did.
 #[inline(always)]
 fn write_noted_few<K: Sink>(
@@ -529,7 +505,7 @@ fn write_noted_few<K: Sink>(
     noted: Noted,
     values: ValueDisplay,
     few: &[u64],
-) -> Result<bool, Fault>
+) -> bool
     requires count { noted.count ≡ length few.now }
     requires few { length few.now ≤ 64 }
     ensures { PrintsWhole (line_at noted.first around
@@ -546,7 +522,7 @@ fn write_json_few<K: Sink>(
     noted: Noted,
     values: ValueDisplay,
     few: &[u64],
-) -> Result<bool, Fault>
+) -> bool
     requires { length few.now ≤ 64 }
     ensures { PrintsWhole (noted_json values
         (noted_fields around noted.first noted.code noted.abbreviation noted.count) few.now)
@@ -554,10 +530,7 @@ fn write_json_few<K: Sink>(
 {
     match values {
         ValueDisplay::Shown => printer.json_record(around, noted, few),
-        ValueDisplay::LeftOut => {
-            printer.noted_line(around, noted)?;
-            Ok(true)
-        }
+        ValueDisplay::LeftOut => printer.json_noted(around, noted),
     }
 }
 
@@ -569,7 +542,7 @@ fn write_few<K: Sink>(
     noted: Noted,
     few: &[u64],
     style: EventStyle,
-) -> Result<bool, Fault>
+) -> bool
     requires count { noted.count ≡ length few.now }
     requires few { length few.now ≤ 64 }
     ensures { (after : ℕ) → PrintsWhole (styled_event style around (notes (record {
@@ -636,7 +609,7 @@ impl<K: Sink> EventWriter<K> {
 }
 
 impl<K: Sink> RunCounter for EventWriter<K> {
-    ghost use Rattle.std.specs.Prelude.{◌≡◌, true};
+    ghost use Rattle.std.specs.Prelude.{◌≡◌, true, false};
     ghost use Rattle.bit_events.specs.Passing.{GathersRecords};
     ghost use Rattle.bit_scan.specs.Telling.{WroteLines};
 
@@ -647,7 +620,10 @@ impl<K: Sink> RunCounter for EventWriter<K> {
 
     ghost lists = { true };
 
+    ghost may_fail = { false };
+
     #[inline(always)]
+<<<<<<< HEAD
     fn count(&mut self, record: CountedRecord, values: &[u64]) -> Result<bool, AllocError> {
         if values.len() > BATCH {
             return Ok(false);
@@ -664,7 +640,19 @@ impl<K: Sink> RunCounter for EventWriter<K> {
                 self.stopped = Some(fault);
                 Err(AllocError)
             }
+=======
+    fn count(&mut self, passed: CountedRecord, values: &[u64]) -> Result<bool, AllocError> {
+        if passed.id > u64::from(u32::MAX) || values.len() > BATCH {
+            return Ok(false);
+>>>>>>> 231fd155726f5be8842bd12857aa73e2cfc2bd2b
         }
+        let noted = Noted {
+            first: passed.first,
+            code: passed.code,
+            abbreviation: passed.id as u32,
+            count: values.len() as u64,
+        };
+        Ok(write_few(&mut self.printer, self.around, noted, values, self.style))
     }
 }
 

@@ -287,24 +287,27 @@ impl TextBuffer {
         Ok(())
     }
 
-    /// Appends the line of a record in a listing, unless the text is then long enough to be put. Returns whether it did.
+    /// Appends the line of a record in a listing, unless the text is then long enough to be put, or
+    /// there is no memory for it. Returns whether it did.
     #[inline(always)]
     pub(crate) fn add_record(
         &mut self,
         around: u32,
         code: u64,
         values: &[u64],
-    ) -> Result<bool, AllocError>
+    ) -> bool
         requires { length values.now ≤ 64 }
         ensures { Adds (record_line around code values.now) self.old result self.new }
     {
-        make_room(&mut self.bytes, self.used, LINE + 2 * around as usize)?;
+        if make_room(&mut self.bytes, self.used, LINE + 2 * around as usize).is_err() {
+            return false;
+        }
         let end = put_record(around, code, values, &mut self.bytes, self.used);
         if end >= HELD {
-            return Ok(false);
+            return false;
         }
         self.used = end;
-        Ok(true)
+        true
     }
 
     /// The same of the line of a record among events, with these values.
@@ -314,18 +317,20 @@ impl TextBuffer {
         around: u32,
         noted: Noted,
         values: &[u64],
-    ) -> Result<bool, AllocError>
+    ) -> bool
         requires { length values.now ≤ 64 }
         ensures { Adds (noted_head around noted.first noted.code noted.abbreviation noted.count
             ++ (values_text values.now ++ (10 ∷ []))) self.old result self.new }
     {
-        make_room(&mut self.bytes, self.used, LINE + 2 * around as usize)?;
+        if make_room(&mut self.bytes, self.used, LINE + 2 * around as usize).is_err() {
+            return false;
+        }
         let end = put_noted(around, noted, values, &mut self.bytes, self.used);
         if end >= HELD {
-            return Ok(false);
+            return false;
         }
         self.used = end;
-        Ok(true)
+        true
     }
 
     /// The same of the line of a record as JSON with these values.
@@ -335,18 +340,38 @@ impl TextBuffer {
         around: u32,
         noted: Noted,
         values: &[u64],
-    ) -> Result<bool, AllocError>
+    ) -> bool
         requires { length values.now ≤ 64 }
         ensures { Adds (list_line (codes "record")
             (noted_fields around noted.first noted.code noted.abbreviation noted.count)
             (codes "values") (joined number_json values.now)) self.old result self.new }
     {
-        make_room(&mut self.bytes, self.used, LINE)?;
+        if make_room(&mut self.bytes, self.used, LINE).is_err() {
+            return false;
+        }
         let end = put_json_record(around, noted, values, &mut self.bytes, self.used);
         if end >= HELD {
-            return Ok(false);
+            return false;
         }
         self.used = end;
-        Ok(true)
+        true
+    }
+
+    /// The same of the line of a record as JSON without its values.
+    #[inline(always)]
+    pub(crate) fn add_json_noted(&mut self, around: u32, noted: Noted) -> bool
+        ensures { Adds (object_line (codes "record")
+            (noted_fields around noted.first noted.code noted.abbreviation noted.count)) self.old
+            result self.new }
+    {
+        if make_room(&mut self.bytes, self.used, LINE).is_err() {
+            return false;
+        }
+        let end = put_json_noted(around, noted, &mut self.bytes, self.used);
+        if end >= HELD {
+            return false;
+        }
+        self.used = end;
+        true
     }
 }

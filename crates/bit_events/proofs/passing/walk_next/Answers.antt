@@ -29,10 +29,10 @@ returns-then-id-eq3-clause-steps g c =
     (λ definitions known.
     let w : Walks g.V.Walker.tells (keeps c.args.cells.now n.at) c.plain.new.cells (entry n.room p c.args.id definitions) n c.in-Some.walked = walked_as g.V.Walker.tells (keeps c.args.cells.now n.at) n.room p definitions n c.args.id 3 c.plain.result c.in-Some.walked c.plain.new.cells c.plain.new.cells c.if-id-eq3.true c.in-Some.is refl (c.plain.ensures.walks p definitions) in
     (w, λ is. c.values.ensures is c.args.cells.now n.at w.code w.values c.in-Some.walked.at w.kept w.count))
-    c.hand_on.ensures
+    c.hand_on.ensures.hands
 
 pub returns-then-id-eq3-clause-moves : goal.returns-then-id-eq3-clause-moves
-returns-then-id-eq3-clause-moves g c = moves_over g.R.RunCounter.counted g.R.RunCounter.asks g.R.RunCounter.lists c.args.next c.args.id c.in-Some.walked c.values.result.now c.args.counter.now c.hand_on.new.counter c.hand_on.result c.requires.id c.requires.reads (c.in-Some.ensures.walks 0 []).within c.hand_on.ensures
+returns-then-id-eq3-clause-moves g c = moves_over g.R.RunCounter.counted g.R.RunCounter.asks g.R.RunCounter.lists c.args.next c.args.id c.in-Some.walked c.values.result.now c.args.counter.now c.hand_on.new.counter c.hand_on.result c.requires.id c.requires.reads (c.in-Some.ensures.walks 0 []).within c.hand_on.ensures.hands
 
 pub values-requires-2 : goal.values-requires-2
 values-requires-2 g c =
@@ -87,7 +87,7 @@ returns-clause-steps g c =
       | else-id-eq3-2 w ↦ walked_as g.V.Walker.tells K n.room p definitions n c.args.id c.args.id w.abbreviated-walked.result c.in-Some-walked.walked w.abbreviated-walked.new.cells c.if-id-eq3-2.cells refl (sym w.walked-is ∙ c.in-Some-walked.is) w.cells-is (w.abbreviated-walked.ensures.walks p definitions known)
     ] in
     (walks, λ is. c.values-2.ensures is c.args.cells.now n.at walks.code walks.values c.in-Some-walked.walked.at walks.kept walks.count))
-    c.hand_on-2.ensures
+    c.hand_on-2.ensures.hands
 
 pub returns-clause-moves : goal.returns-clause-moves
 returns-clause-moves g c =
@@ -100,4 +100,4 @@ returns-clause-moves g c =
       | then-id-eq3-2 w ↦ walked_as g.V.Walker.tells K n.room p d.0 n c.args.id 3 w.plain-walked.result c.in-Some-walked.walked w.plain-walked.new.cells c.if-id-eq3-2.cells w.if-id-eq3-2.true (sym w.walked-is ∙ c.in-Some-walked.is) w.cells-is (w.plain-walked.ensures.walks p d.0)
       | else-id-eq3-2 w ↦ walked_as g.V.Walker.tells K n.room p d.0 n c.args.id c.args.id w.abbreviated-walked.result c.in-Some-walked.walked w.abbreviated-walked.new.cells c.if-id-eq3-2.cells refl (sym w.walked-is ∙ c.in-Some-walked.is) w.cells-is (w.abbreviated-walked.ensures.walks p d.0 d.1)
     ] in
-    moves_over g.R.RunCounter.counted g.R.RunCounter.asks g.R.RunCounter.lists n c.args.id c.in-Some-walked.walked c.values-2.result.now c.args.counter.now c.hand_on-2.new.counter c.hand_on-2.result c.requires.id c.requires.reads walks.within c.hand_on-2.ensures
+    moves_over g.R.RunCounter.counted g.R.RunCounter.asks g.R.RunCounter.lists n c.args.id c.in-Some-walked.walked c.values-2.result.now c.args.counter.now c.hand_on-2.new.counter c.hand_on-2.result c.requires.id c.requires.reads walks.within c.hand_on-2.ensures.hands
