@@ -26,8 +26,4 @@ pub mod Noted
 pub mod Objects
 pub mod Determined
 pub mod Batches
-<<<<<<< HEAD
-pub mod CountedLines
-=======
 pub mod ListedRuns
->>>>>>> 231fd155726f5be8842bd12857aa73e2cfc2bd2b

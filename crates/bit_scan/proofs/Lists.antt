@@ -3,8 +3,7 @@ use Rattle.std.proofs.Common.{◌≡◌, ℕ, Bool, true, false, List, [], ◌�
 use Rattle.std.specs.Prelude.{OnErr, OnOk, if◌then◌else◌}
 use Rattle.std.specs.declared.alloc.AllocError.{AllocError}
 use Rattle.std.proofs.lemmas.List.{append-nil}
-use Rattle.bit_grammar.specs.Machine.{Event, Told, defines}
-use Rattle.bit_grammar.specs.Marks.{DefinitionMark}
+use Rattle.bit_grammar.specs.Machine.{Event, Told}
 use Rattle.bit_grammar.specs.Steps.{open_after}
 use Rattle.bit_grammar.specs.Texts.{event_text, events_text}
 use Rattle.bit_events.specs.Standing.{OpenUnder, leaves as leaves_event, stands_after, left_of}
@@ -94,14 +93,6 @@ on_any (Err e) p = tt
 -- an event that is not kept has no line
 pub not_left : (stood : OpenUnder) (around : ℕ) (event : Event) (p : Printing) → leaves_event stood event ≡ false → Printed (line_left stood around event) p p
 not_left stood around event p isnt = rw isnt (printed_none p)
-
--- a definition has no line
-pub no_line : (stood : OpenUnder) (around : ℕ) (mark : DefinitionMark) (p : Printing) → Printed (line_left stood around (defines mark)) p p × (around ≡ around_after stood around (defines mark))
-no_line stood around mark p = go (leaves_event stood (defines mark))
-  where
-    go : (kept : Bool) → Printed (if kept then event_text around (defines mark) else []) p p × (around ≡ (if kept then open_after (defines mark) around else around))
-    go true = (printed_none p, refl)
-    go false = (printed_none p, refl)
 
 no_fault : (o : Option Fault) (fault : Fault) → o ≡ Some fault → o ≡ None → ⊥
 no_fault o fault is isnt = (let both : Some fault ≡ None = sym is ∙ isnt in cc)

@@ -303,16 +303,6 @@ impl<'a, K: Sink> RunCounter for ListingWriter<'a, K> {
         }
         if values.len() > BATCH {
             return Ok(false);
-<<<<<<< HEAD
-        }
-        match self.printer.record_line(self.around, record.code, values) {
-            Ok(is_added) => Ok(is_added),
-            Err(fault) => {
-                self.stopped = Some(fault);
-                Err(AllocError)
-            }
-=======
->>>>>>> 231fd155726f5be8842bd12857aa73e2cfc2bd2b
         }
         Ok(self.printer.record_line(self.around, passed.code, values))
     }

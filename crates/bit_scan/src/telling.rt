@@ -623,28 +623,9 @@ impl<K: Sink> RunCounter for EventWriter<K> {
     ghost may_fail = { false };
 
     #[inline(always)]
-<<<<<<< HEAD
-    fn count(&mut self, record: CountedRecord, values: &[u64]) -> Result<bool, AllocError> {
-        if values.len() > BATCH {
-            return Ok(false);
-        }
-        let noted = Noted {
-            first: record.first,
-            code: record.code,
-            abbreviation: record.id as u32,
-            count: values.len() as u64,
-        };
-        match write_few(&mut self.printer, self.around, noted, values, self.style) {
-            Ok(is_added) => Ok(is_added),
-            Err(fault) => {
-                self.stopped = Some(fault);
-                Err(AllocError)
-            }
-=======
     fn count(&mut self, passed: CountedRecord, values: &[u64]) -> Result<bool, AllocError> {
         if passed.id > u64::from(u32::MAX) || values.len() > BATCH {
             return Ok(false);
->>>>>>> 231fd155726f5be8842bd12857aa73e2cfc2bd2b
         }
         let noted = Noted {
             first: passed.first,

@@ -1,14 +1,4 @@
 use Rattle.bit_abbrev.specs.BlockPlans.{all_of_block}
-<<<<<<< HEAD
-use Rattle.bit_events.specs.Passing.{GathersRecords}
-use Rattle.bit_events.proofs.PassedOver.{counted_gathered}
-use Rattle.bit_scan.proofs.CountedLines.{gathered_first}
-use Rattle.bit_scan.proofs.listing.ListingWriterGatherer.pass.Goals as goal
-
-pub returns-clause-gathers : goal.returns-clause-gathers
-returns-clause-gathers g c =
-    counted_gathered (GathersRecords _) _ (all_of_block c.args.definitions.now) c.args.next c.args.self.now c.list_records.new.counter c.args.self.now c.list_records.new.counter c.list_records.result (gathered_first _ c.args.self.now c.list_records.new.counter) c.list_records.ensures.counts
-=======
 use Rattle.bit_events.proofs.BlockKept.{kept_same}
 use Rattle.bit_scan.proofs.Lists.{WroteBy}
 use Rattle.bit_scan.proofs.ListedRuns.{never_fails, run_told}
@@ -22,4 +12,3 @@ returns-clause-gathers g c = run_told (WroteBy (λ w. w.standing) (λ w. w.aroun
 
 pub returns-clause-fails : goal.returns-clause-fails
 returns-clause-fails g c = never_fails c.list_records.result c.list_records.ensures.fails
->>>>>>> 231fd155726f5be8842bd12857aa73e2cfc2bd2b

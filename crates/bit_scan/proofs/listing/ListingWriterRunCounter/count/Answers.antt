@@ -1,37 +1,14 @@
 use Rattle.std.proofs.Common.{◌≡◌, ◌∙◌, Ok, true, false, refl, sym}
 use Rattle.bit_grammar.specs.Machine.{Event, notes}
 use Rattle.bit_grammar.specs.Texts.{event_text}
-<<<<<<< HEAD
-use Rattle.bit_events.specs.Standing.{leaves}
-use Rattle.bit_scan.proofs.CountedLines.{counts_told, mark_of}
-use Rattle.bit_scan.proofs.Lists.{not_left, wrote_line}
-=======
 use Rattle.bit_events.specs.Passing.{mark_of}
 use Rattle.bit_events.specs.Standing.{leaves}
 use Rattle.bit_scan.proofs.Lists.{not_left, wrote_line, WroteBy}
 use Rattle.bit_scan.proofs.ListedRuns.{record_told}
->>>>>>> 231fd155726f5be8842bd12857aa73e2cfc2bd2b
 use Rattle.bit_scan.proofs.Prints.{whole_printed}
 use Rattle.bit_scan.proofs.listing.ListingWriterRunCounter.count.Goals as goal
 
 pub returns-then-not-leaves_record-clause-counts : goal.returns-then-not-leaves_record-clause-counts
-<<<<<<< HEAD
-returns-then-not-leaves_record-clause-counts g c = λ added.
-    let old = c.args.self.now in
-    let event : Event = notes (mark_of c.args.record c.args.values.now) in
-    let isnt : leaves old.standing event ≡ false = sym c.leaves_record.ensures ∙ c.if-not-leaves_record.true in
-    counts_told _ old old c.args.record c.args.values.now
-    (wrote_line (λ w. w.standing) (λ w. w.around) (λ w. w.printer) (λ w. w.stopped) old old event (Ok tt) (not_left old.standing old.around event old.printer isnt) refl refl (rw isnt refl))
-
-pub returns-in-Ok-clause-counts : goal.returns-in-Ok-clause-counts
-returns-in-Ok-clause-counts g c = λ added.
-    let old = c.args.self.now in
-    let q = c.record_line.new.self in
-    let event : Event = notes (mark_of c.args.record c.args.values.now) in
-    let is : leaves old.standing event ≡ true = sym c.leaves_record.ensures ∙ c.if-not-leaves_record.false in
-    counts_told _ old (record old { printer = q }) c.args.record c.args.values.now
-    (wrote_line (λ w. w.standing) (λ w. w.around) (λ w. w.printer) (λ w. w.stopped) old (record old { printer = q }) event (Ok tt) (rw is (whole_printed (event_text old.around event) old.printer q c.in-Ok.is_added added c.in-Ok.ensures)) refl refl (rw is refl))
-=======
 returns-then-not-leaves_record-clause-counts g c = λ taken.
     let old = c.args.self.now in
     let event : Event = notes (mark_of c.args.passed c.args.values.now) in
@@ -47,4 +24,3 @@ returns-clause-counts g c = λ added.
     let is : leaves old.standing event ≡ true = sym c.leaves_record.ensures ∙ c.if-not-leaves_record.false in
     record_told (WroteBy (λ w. w.standing) (λ w. w.around) (λ w. w.printer) (λ w. w.stopped)) old (record old { printer = q }) c.args.passed c.args.values.now
     (wrote_line (λ w. w.standing) (λ w. w.around) (λ w. w.printer) (λ w. w.stopped) old (record old { printer = q }) event (Ok tt) (rw is (whole_printed (event_text old.around event) old.printer q c.record_line.result added c.record_line.ensures)) refl refl (rw is refl))
->>>>>>> 231fd155726f5be8842bd12857aa73e2cfc2bd2b

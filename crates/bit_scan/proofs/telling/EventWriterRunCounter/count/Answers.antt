@@ -1,27 +1,5 @@
 use Rattle.std.proofs.Common.{Ok, ap, refl}
 use Rattle.bit_grammar.specs.Machine.{Event, notes}
-<<<<<<< HEAD
-use Rattle.bit_scan.specs.Printing.{Printing}
-use Rattle.bit_scan.specs.Styles.{styled_event}
-use Rattle.bit_scan.proofs.CountedLines.{counts_told, mark_of}
-use Rattle.bit_scan.proofs.Prints.{whole_left_out, whole_printed}
-use Rattle.bit_scan.proofs.Tellings.{wrote_line}
-use Rattle.bit_scan.proofs.telling.EventWriterRunCounter.count.Goals as goal
-
-pub returns-in-Ok-clause-counts : goal.returns-in-Ok-clause-counts
-returns-in-Ok-clause-counts g c = λ added.
-    let old = c.args.self.now in
-    let q = c.write_few.new.printer in
-    let event : Event = notes (mark_of c.args.record c.args.values.now) in
-    counts_told _ old (record old { printer = q }) c.args.record c.args.values.now
-    (wrote_line (λ w. w.style) (λ w. w.around) (λ w. w.printer) (λ w. w.stopped) old (record old { printer = q }) event (Ok tt) (whole_printed (styled_event old.style old.around event) old.printer q c.in-Ok.is_added added (c.in-Ok.ensures c.args.record.after)) refl refl refl)
-
-pub returns-in-Ok-clause-leaves : goal.returns-in-Ok-clause-leaves
-returns-in-Ok-clause-leaves g c = λ declined.
-    let old = c.args.self.now in
-    let event : Event = notes (mark_of c.args.record c.args.values.now) in
-    ap (λ (p : Printing). record old { printer = p }) (whole_left_out (styled_event old.style old.around event) old.printer c.write_few.new.printer c.in-Ok.is_added declined (c.in-Ok.ensures c.args.record.after))
-=======
 use Rattle.bit_events.specs.Passing.{mark_of}
 use Rattle.bit_scan.specs.Printing.{Printing}
 use Rattle.bit_scan.specs.Styles.{styled_event}
@@ -43,4 +21,3 @@ returns-clause-leaves g c = λ declined.
     let old = c.args.self.now in
     let event : Event = notes (mark_of c.args.passed c.args.values.now) in
     ap (λ (p : Printing). record old { printer = p }) (whole_left_out (styled_event old.style old.around event) old.printer c.write_few.new.printer c.write_few.result declined (c.write_few.ensures c.args.passed.after))
->>>>>>> 231fd155726f5be8842bd12857aa73e2cfc2bd2b
