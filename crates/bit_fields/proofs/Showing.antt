@@ -1,5 +1,5 @@
 -- A reader that shows bits, moves on by them, and returns its source.
-use Rattle.std.proofs.Common.{◌≡◌, ℕ, ◌+◌, ◌-◌, ◌≤◌, ◌⊎◌, Bool, true, false, [], length, refl, sym, ap, ◌∙◌, arith, inl, inr}
+use Rattle.std.proofs.Common.{◌≡◌, ℕ, ◌⊎◌, Bool, true, false, [], length, refl, sym, ap, ◌∙◌, arith, inl, inr}
 use Rattle.std.proofs.lemmas.Bool.{false≢true}
 use Rattle.bit_fields.specs.Buffered.{BufferedBits, ShowsBits}
 use Rattle.bit_fields.specs.Devices.{Incoming, Spends, Fails}

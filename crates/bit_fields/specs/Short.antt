@@ -1,5 +1,5 @@
 -- Numbers in few chunks, as a word holds them: the first chunk lowest, and the continuation bit of each chunk its top bit.
-use Rattle.std.specs.Prelude.{◌≡◌, ℕ, zero, suc, ◌+◌, ◌*◌, ◌-◌, ◌/◌, ◌%◌, ◌^◌, ◌≤◌}
+use Rattle.std.specs.Prelude.{◌≡◌, ℕ, zero, suc, ◌+◌, ◌*◌, ◌/◌, ◌%◌, ◌^◌}
 use Rattle.bit_grammar.specs.Grammar.{gives}
 use Rattle.bit_fields.specs.Reader.{Reader, Took}
 
