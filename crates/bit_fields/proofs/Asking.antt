@@ -7,10 +7,10 @@ use Rattle.std.proofs.Math.Seq.{take-append-add}
 use Rattle.bit_fields.specs.declared.inflow.Missing.{Missing}
 use Rattle.bit_fields.specs.declared.inflow.Missing.TheVariants.{End, Limit, Read}
 use Rattle.bit_grammar.specs.Bits.{bits_of_bytes}
-use Rattle.bit_fields.specs.Devices.{Incoming, Begins, Gave, GaveNone, GaveUnseen, Looked, Spends, known_bytes}
-use Rattle.bit_fields.specs.Inflow.{Flow, lending, IsKnown, stop_of, taken_of, total_of, budget_of, carried_of, IsFlow, Copies, KeepsFlow, LooksOn, Drops, NoMore, LostFlow, Asks, to_ask}
+use Rattle.bit_fields.specs.Devices.{Incoming, Begins, Gave, GaveUnseen, Spends, known_bytes}
+use Rattle.bit_fields.specs.Inflow.{Flow, lending, IsKnown, stop_of, taken_of, total_of, budget_of, carried_of, IsFlow, Copies, KeepsFlow, LooksOn, Drops, NoMore, Asks, to_ask}
 use Rattle.bit_fields.proofs.BitLaws.{take_whole}
-use Rattle.bit_fields.proofs.InflowLaws.{Spends-refl, Spends-trans, fails_later, Keeps-refl, Keeps-trans, looked_spends, kept, at_end, came, gave_spends, lent_known, lent_bytes, lent_after, lent_at_end, StillLent, spends_lent, fails_lent, looked_still, none_fails, drop_front, flow_length}
+use Rattle.bit_fields.proofs.InflowLaws.{Spends-refl, fails_later, Keeps-refl, Keeps-trans, at_end, came, gave_spends, lent_known, lent_bytes, lent_after, lent_at_end, StillLent, spends_lent, drop_front, flow_length}
 
 -- ---- the source of a flow
 
@@ -42,10 +42,6 @@ going_so f was some = not_true f.ended (λ e. omega (arith, (was.ended e).2, som
 pub none_over : (f : Flow) → IsFlow f → (f.before + length f.carry + f.lent < stop_of f) ⊎ (0 < f.lent) → f.over ≡ 0
 none_over f was (inl less) = elim (cases_lt 0 f.over) [ inl some ↦ absurd (omega (arith, (was.over some).0, (was.over some).1, less)) | inr none ↦ omega (arith, none) ]
 none_over f was (inr lent) = elim (cases_lt 0 f.over) [ inl some ↦ absurd (omega (arith, (was.over some).1, lent)) | inr none ↦ omega (arith, none) ]
-
--- bytes that are lent, of which all bits are read, so many at least
-pub read_lent : (f : Flow) (held : ℕ) → IsFlow f → length f.carry ≡ held → 8 * held + 8 ≤ f.at → (f.at / 8 - held ≤ f.lent) × (0 < f.at / 8 - held)
-read_lent f held was len some = (omega (arith, was.place, len, some), omega (arith, some))
 
 passed_still : (lent count most : ℕ) (i j : Incoming) → GaveUnseen i j most count → StillLent lent (lent - count) i j
 passed_still lent count most i j gave k le = omega (arith, le, (came i j count gave.into gave.gave k).1)
@@ -126,21 +122,6 @@ passes_unseen f i j held most count is was len low most_is zero_given gave g g_i
       behind_flow f held most j was len one read going,
       omega (arith, one, was.within, len, enough, none),
     )
-
--- ---- the source fails
-
-pub same_flow : (f : Flow) (j : Incoming) → IsFlow f → f.ended ≡ false → IsFlow (record f { incoming = j })
-same_flow f j was going = record { held = was.held; within = was.within; place = was.place; over = was.over; taken = was.taken; limit = was.limit; ended = λ e. absurd (false≢true (sym going ∙ e)) }
-
-pub lost : (f : Flow) (i j : Incoming) → f.incoming ≡ lending f.lent i → IsFlow f → f.ended ≡ false → f.over ≡ 0 → GaveNone i j → LostFlow f (record f { incoming = lending f.lent j })
-lost f i j is was going no_over none =
-    let still = looked_still f.lent i j none.bytes in
-    record {
-      place = refl;
-      fails = rw (going, is) (fails_lent i j f.lent f.lent (f.limit + 1 - taken_of f) 0 (none_fails i j (f.limit + 1 - taken_of f) none (omega (arith, was.within, no_over))) still);
-      total = λ k. omega (arith, ap length (bytes_so f i is k), ap length (lent_after f.lent f.lent i j still (known_so f i is k)), ap length (kept i.to_come j.to_come none.bytes (lent_known f.lent i (known_so f i is k)).0).1);
-      given = omega (arith, no_over);
-    }
 
 -- ---- bytes of the carry are dropped
 
@@ -303,37 +284,6 @@ copies_so to_come held count old new shown post there few new_is front =
     shorter (Some all) front =
         let n : length (take count shown) ≡ count = length-take-le count shown few in
         ap (λ (m : ℕ). take m all) n ∙ sym (take-take count (length shown) all (omega (arith, few))) ∙ ap (take count) front
-
--- bytes that the source lends from now on
-pub lends : (f : Flow) (i j l : Incoming) (shown : List ℕ) (lent : ℕ) → f.incoming ≡ lending f.lent i → IsFlow f → f.ended ≡ false → f.lent ≡ 0 → taken_of f < stop_of f → Looked i j → Looked j l → Begins j.to_come shown → lent ≤ length shown → lent + taken_of f ≤ stop_of f → 0 < lent
-    → (g : Flow) → g ≡ record f { incoming = lending lent l; lent = lent } → KeepsFlow f g × IsFlow g × (to_ask g < to_ask f)
-lends f i j l shown lent is was going none_lent some look lend front few room more g g_is =
-    let n : ℕ = f.limit + 1 - taken_of f in
-    let none : f.over ≡ 0 = elim (cases_lt 0 f.over) [ inl over ↦ absurd (omega (arith, (was.over over).0, some)) | inr free ↦ omega (arith, free) ] in
-    let told : IsSome i.to_come → IsSome j.to_come = λ k. (kept i.to_come j.to_come look.bytes k).0 in
-    let same : IsSome i.to_come → known_bytes i.to_come ≡ known_bytes l.to_come = λ k. (kept i.to_come j.to_come look.bytes k).1 ∙ (kept j.to_come l.to_come lend.bytes (told k)).1 in
-    let still : StillLent f.lent lent i l = λ k le. omega (arith, few, ap length (shown_front j.to_come shown front (told k)), length-take (length shown) (known_bytes j.to_come), ap length (kept j.to_come l.to_come lend.bytes (told k)).1) in
-    let bytes : IsKnown f → known_bytes (lending lent l).to_come ≡ known_bytes f.incoming.to_come = λ k. lent_after f.lent lent i l still (known_so f i is k) ∙ sym (same (lent_known f.lent i (known_so f i is k)).0) ∙ sym (bytes_so f i is k) in
-    rw g_is (
-      record {
-        end = refl;
-        limit = refl;
-        place = refl;
-        spends = rw (going, is) (spends_lent i l f.lent lent n n (Spends-trans i n j n l n (looked_spends i j n look) (looked_spends j l n lend)) still);
-        left = λ k. ap (λ (b : List ℕ). drop f.at (bits_of_bytes (take (stop_of f - f.before) (f.carry ++ b)))) (bytes k);
-        total = λ k. ap (λ (b : List ℕ). taken_of f + length b) (bytes k);
-      },
-      record {
-        held = was.held;
-        within = omega (arith, room, none);
-        place = omega (arith, was.place, none_lent);
-        over = λ over. absurd (omega (arith, over, none));
-        taken = was.taken;
-        limit = was.limit;
-        ended = λ e. absurd (false≢true (sym going ∙ e));
-      },
-      omega (arith, none_lent, more),
-    )
 
 -- ---- no more bytes come
 

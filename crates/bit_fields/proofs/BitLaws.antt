@@ -58,10 +58,6 @@ bits_of-above (suc h) n low high lt =
 
 -- ---- as a window holds them
 
-pub window_value : (held word n : ℕ) (s : List Bool) → n ≤ 32 → n ≤ held → bits_of held word ≡ s → bit_and word (1 * 2 ^ n % 2 ^ 64 - 1) ≡ number (take n s)
-window_value held word n s few there is =
-    rw (← is, take-bits_of n held word there, number-bits_mod n word, one_shl n 64 (omega arith)) (and_mask word n)
-
 pub window_rest : (held word n : ℕ) (s : List Bool) → n ≤ held → bits_of held word ≡ s → bits_of (held - n) (word / 2 ^ n) ≡ drop n s
 window_rest held word n s there is =
     let e : held ≡ n + (held - n) = omega arith in

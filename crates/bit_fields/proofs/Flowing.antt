@@ -1,5 +1,5 @@
 -- Bits of a flow that are shown and read.
-use Rattle.std.proofs.Common.{◌≡◌, ℕ, ◌+◌, ◌*◌, ◌-◌, ◌<◌, ◌≤◌, ◌⊎◌, min, Bool, true, false, List, [], ◌++◌, length, take, drop, Option, Some, None, Ok, Err, refl, sym, ap, ◌∙◌, subst, arith, append_assoc, take-take, inl, inr}
+use Rattle.std.proofs.Common.{◌≡◌, ℕ, ◌+◌, ◌*◌, ◌-◌, ◌<◌, ◌≤◌, ◌⊎◌, min, Bool, true, List, [], ◌++◌, length, take, drop, Option, Some, None, Ok, Err, refl, sym, ap, ◌∙◌, subst, arith, append_assoc, take-take, inl, inr}
 use Rattle.std.proofs.lemmas.Bool.{cases_lt}
 use Rattle.std.proofs.lemmas.List.{take_at, drop_at, append-nil, length-append, length-take, length-take-le, length-drop, take-append-drop, take-append-le, drop-append-le, drop-take, nil_from_length}
 use Rattle.std.proofs.Math.Seq.{take-append-add}
@@ -12,9 +12,9 @@ use Rattle.bit_fields.specs.Reader.{GivenBack}
 use Rattle.bit_fields.specs.Placed.{IsFront, bits_at}
 use Rattle.bit_fields.specs.declared.inflow.Missing.{Missing}
 use Rattle.bit_fields.specs.declared.inflow.Missing.TheVariants.{End, Limit, Read}
-use Rattle.bit_fields.specs.Inflow.{Flow, lending, IsKnown, stop_of, place_of, taken_of, flow_bits, budget_of, there_of, IsFlow, Copies, KeepsFlow, LooksOn, Shows, ShowsFront, Advances, TakesBits, Lacks, Asks, Misses, Waits, Skips, Shortens, IsSettled, Settles, HandsOver, TookAll, TookMost, Drained, Overran}
+use Rattle.bit_fields.specs.Inflow.{Flow, lending, IsKnown, stop_of, place_of, taken_of, flow_bits, budget_of, there_of, IsFlow, Copies, KeepsFlow, LooksOn, Shows, ShowsFront, Advances, TakesBits, Lacks, Asks, Misses, Waits, Skips, Shortens, Settles, HandsOver, TookAll, TookMost, Drained}
 use Rattle.bit_fields.proofs.BitLaws.{bits_of_bytes-append, bits_of_bytes-take, length-bits_of_bytes, drop_more, take_whole}
-use Rattle.bit_fields.proofs.InflowLaws.{drop_front, flow_length, Spends-refl, Spends-trans, Spends-none, fails_later, kept, at_end, came, gave_spends, Keeps-trans, looks_on, lent_known, lent_bytes, lent_after, looked_lent, lending_all, StillLent, spends_lent, fails_lent, none_fails}
+use Rattle.bit_fields.proofs.InflowLaws.{drop_front, flow_length, Spends-refl, Spends-trans, Spends-none, fails_later, kept, at_end, came, gave_spends, Keeps-trans, looks_on, lent_known, lent_bytes, lent_after, looked_lent, lending_all, StillLent, spends_lent, none_fails}
 use Rattle.bit_fields.proofs.Asking.{known_so, bytes_so, shown_front, carried_on}
 
 -- ---- bits that are shown
@@ -185,10 +185,6 @@ pub lacks_of : (n : ℕ) (b : BufferedBits) (f m : Flow) → Shows f b m → (o 
 lacks_of n b f m shows None h = record { looks = shows.looks; few = omega (arith, shows.carried, h) }
 lacks_of n b f m shows (Some v) h = h
 
--- fewer bits are in the carry, and the source lends none
-pub lacks_held : (n : ℕ) (f : Flow) → IsFlow f → f.lent ≡ 0 → 8 * length f.carry < f.at + n → Lacks n f f
-lacks_held n f was none few = record { looks = looks_same f; few = omega (arith, was.place, none, few) }
-
 pub takes_bits : (n v : ℕ) (f m g : Flow) → ShowsFront n v f m → Advances n m g → TakesBits n v f g
 takes_bits n v f m g shows adv =
     let keeps = looks_on f m shows.looks in
@@ -352,9 +348,6 @@ shortened f i end held room kept lent is was held_is least high room_is kept_is 
 
 -- ---- the source when nothing more is read
 
-pub settled : (f : Flow) → f.at < 8 * length f.carry + 8 → IsSettled f
-settled f low k = omega (arith, low)
-
 pub released : (l : ℕ) (i : Incoming) → GivenBack (lending l i) i
 released l i = record { pulls = refl; failures = refl; tells = λ k. (lent_known l i k).0; bytes = λ k. sym (lent_bytes l i k); accounts = λ n all says. says }
 
@@ -414,30 +407,11 @@ passed_most i j most left so done = record { spends = Spends-none i most j left 
 pub passed_failed : (i j l : Incoming) (most left : ℕ) → Passing i j most left → 0 < left → GaveNone j l → Fails i most l 0
 passed_failed i j l most left so some none = fails_later i most j left l 0 so.spends (none_fails j l left none some)
 
--- nothing is read any more
-pub stops_reading : (f : Flow) (i : Incoming) → f.incoming ≡ lending f.lent i → IsFlow f → (g : Flow) → g ≡ record f { incoming = lending 0 i; lent = 0; at = 0 } → IsFlow g
-stops_reading f i is was g g_is = rw g_is (record {
-  held = was.held;
-  within = omega (arith, was.within);
-  place = omega arith;
-  over = λ some. ((was.over some).0, refl);
-  taken = was.taken;
-  limit = was.limit;
-  ended = λ e. (subst (λ (n : ℕ). IsAtEnd (lending n i).to_come) (was.ended e).2 (subst (λ (x : Incoming). IsAtEnd x.to_come) is (was.ended e).0), (was.ended e).1, refl);
-})
-
 none_lent : (i : Incoming) → known_bytes (lending 0 i).to_come ≡ known_bytes i.to_come
 none_lent i = ap (λ (x : Incoming). known_bytes x.to_come) (lending_all 0 i (omega arith))
 
 no_loan : (l : ℕ) (i j : Incoming) → StillLent l 0 i j
 no_loan l i j k le = omega arith
-
-pub drained_all : (f : Flow) (i j : Incoming) → f.incoming ≡ lending f.lent i → f.ended ≡ false → TookAll i j (f.limit + 1 - taken_of f) → (g : Flow) → g.incoming ≡ lending 0 j → Drained f g
-drained_all f i j is going all g g_is = record {
-  spends = rw (going, is, g_is) (spends_lent i j f.lent 0 (f.limit + 1 - taken_of f) 0 all.spends (no_loan f.lent i j));
-  none = λ k. ap (λ (x : Incoming). known_bytes x.to_come) g_is ∙ none_lent j ∙ all.none (lent_known f.lent i (known_so f i is k)).0;
-  within = λ k. omega (arith, all.few (lent_known f.lent i (known_so f i is k)).0, ap length (bytes_so f i is k));
-}
 
 pub drained_before : (f : Flow) (i : Incoming) → f.incoming ≡ lending f.lent i → IsFlow f → f.ended ≡ true → (g : Flow) → g.incoming ≡ lending 0 i → Drained f g
 drained_before f i is was ended g g_is =
@@ -448,13 +422,3 @@ drained_before f i is was ended g g_is =
       none = λ k. ap (λ (x : Incoming). known_bytes x.to_come) g_is ∙ none_lent i ∙ sym (bytes_so f i is k) ∙ none;
       within = λ k. omega (arith, end.1, ap length none);
     }
-
-pub overran : (f : Flow) (i j : Incoming) → f.incoming ≡ lending f.lent i → f.ended ≡ false → IsFlow f → TookMost i j (f.limit + 1 - taken_of f) → (g : Flow) → g.limit ≡ f.limit → g.incoming ≡ lending 0 j → Overran f g
-overran f i j is going was most g limit g_is = record {
-  limit = limit;
-  spends = rw (going, is, g_is) (spends_lent i j f.lent 0 (f.limit + 1 - taken_of f) 0 most.spends (no_loan f.lent i j));
-  past = λ k. omega (arith, most.enough (lent_known f.lent i (known_so f i is k)).0, ap length (bytes_so f i is k), was.taken);
-}
-
-pub drain_failed : (f : Flow) (i j : Incoming) → f.incoming ≡ lending f.lent i → f.ended ≡ false → Fails i (f.limit + 1 - taken_of f) j 0 → (g : Flow) → g.incoming ≡ lending 0 j → Fails f.incoming (budget_of f) g.incoming 0
-drain_failed f i j is going fails g g_is = rw (going, is, g_is) (fails_lent i j f.lent 0 (f.limit + 1 - taken_of f) 0 fails (no_loan f.lent i j))

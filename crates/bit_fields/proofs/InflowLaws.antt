@@ -1,5 +1,5 @@
 -- The state after asking the source for bytes.
-use Rattle.std.proofs.Common.{◌≡◌, ℕ, ◌+◌, ◌*◌, ◌-◌, ◌^◌, ◌<◌, ◌≤◌, ◌⊎◌, max, min, Bool, true, false, cond, leb, List, [], ◌++◌, length, take, drop, Option, Some, None, refl, sym, ap, ◌∙◌, subst, arith, inl, inr}
+use Rattle.std.proofs.Common.{◌≡◌, ℕ, ◌+◌, ◌*◌, ◌-◌, ◌^◌, ◌≤◌, ◌⊎◌, max, min, Bool, true, false, cond, leb, List, [], ◌++◌, length, take, drop, Option, Some, None, refl, sym, ap, ◌∙◌, subst, arith, inl, inr}
 use Rattle.std.specs.Prelude.{IsSome, is_some}
 use Rattle.std.specs.Io.KnownBytes as bytes
 use Rattle.std.proofs.lemmas.Bool.{false≢true, le-leb, lt-leb, cases_lt}
@@ -69,16 +69,6 @@ gave_spends i j count into before after gave paid one =
       accounts = gave.accounts;
     }
 
-none_given : (old new : Incoming) (count : ℕ) (into : List ℕ) → count ≡ 0 → Gave old new count into → Gave old new 0 into
-none_given old new count into e gave = subst (λ (n : ℕ). Gave old new n into) e gave
-
--- what the end of the source means for the bytes to come, before and after
-pub ends_so : (i j : Incoming) (count : ℕ) (into : List ℕ) → count ≡ 0 → Gave i j count into → 0 < length into → (known_bytes j.to_come ≡ []) × (IsSome i.to_come → known_bytes i.to_come ≡ [])
-ends_so i j count into zero_given given room =
-    let gave = none_given i j count into zero_given given in
-    let none : known_bytes j.to_come ≡ [] = at_end j.to_come (gave.end refl room) in
-    (none, λ k. (consumed i.to_come j.to_come [] gave.bytes k).1 ∙ none)
-
 -- the bytes given were the next ones
 pub came : (i j : Incoming) (count : ℕ) (into : List ℕ) → Gave i j count into → IsSome i.to_come → (known_bytes i.to_come ≡ take count into ++ known_bytes j.to_come) × (length (known_bytes i.to_come) ≡ count + length (known_bytes j.to_come))
 came i j count into gave k =
@@ -130,19 +120,7 @@ spends_lent i j l m before after p still = record {
   accounts = p.accounts;
 }
 
-pub fails_lent : (i j : Incoming) (l m before after : ℕ) → Fails i before j after → StillLent l m i j → Fails (lending l i) before (lending m j) after
-fails_lent i j l m before after p still = record {
-  pulls = p.pulls;
-  failed = p.failed;
-  tells = lent_tells l m i j p.tells still;
-  bytes = λ k. omega (arith, p.bytes (lent_known l i k).0, ap length (lent_bytes l i k), ap length (lent_after l m i j still k));
-  accounts = p.accounts;
-}
-
 -- ---- a source that is looked at, or fails
-
-pub looked_still : (l : ℕ) (i j : Incoming) → bytes.Keeps i.to_come j.to_come → StillLent l l i j
-looked_still l i j keeps k le = omega (arith, le, ap length (kept i.to_come j.to_come keeps k).1)
 
 lent_keeps : (l : ℕ) (a b : Option (List ℕ)) → bytes.Keeps a b → bytes.Keeps (cond (leb l (length (known_bytes a))) a None) (cond (leb l (length (known_bytes b))) b None)
 lent_keeps l None b keeps = none (leb l 0)

@@ -10,13 +10,12 @@ use Rattle.bit_grammar.specs.Terms.{character}
 use Rattle.bit_fields.specs.declared.fault.Fault.{Fault}
 use Rattle.bit_fields.specs.declared.inflow.Missing.{Missing}
 use Rattle.bit_fields.specs.declared.inflow.Missing.TheVariants.{End, Limit, Read}
-use Rattle.bit_fields.specs.Inflow.{Flow, IsKnown, flow_bits, total_of, is_flow_cut, budget_of, place_of, KeepsFlow, LooksOn, TakesBits, Misses}
-use Rattle.bit_fields.specs.Short.{TookNothing}
+use Rattle.bit_fields.specs.Inflow.{Flow, IsKnown, flow_bits, total_of, is_flow_cut, budget_of, KeepsFlow, TakesBits, Misses}
 use Rattle.bit_fields.specs.Reader.{Reader, Took, Why, Takes, stopped_at}
 use Rattle.bit_fields.specs.Inside.{part_of, reader_of, fault_of_missing}
 use Rattle.bit_fields.proofs.BitLaws.{take_whole}
-use Rattle.bit_fields.proofs.InflowLaws.{Spends-none, looks_on}
-use Rattle.bit_fields.proofs.Composing.{fault_then, spells_nothing, spells_read, took_then, took_nothing, from_here}
+use Rattle.bit_fields.proofs.InflowLaws.{Spends-none}
+use Rattle.bit_fields.proofs.Composing.{fault_then, spells_read, took_then, took_nothing, from_here}
 
 -- ---- the reading
 
@@ -68,26 +67,7 @@ flow_missed rule n first p f g Limit short out = (
 )
 flow_missed rule n first p f g Read short lost = record { was_live = refl; failed = refl; fails = lost.fails }
 
--- a reader whose source was asked, and of whose input nothing was taken
-pub kept_nothing : (p : ℕ) (f g : Flow) → KeepsFlow f g → TookNothing (reader_of true p f) (reader_of true p g)
-kept_nothing p f g keeps = record {
-  was_live = refl;
-  live = refl;
-  goes_on = keeps.spends;
-  forward = omega arith;
-  end = keeps.end;
-  limit = keeps.limit;
-  extent = λ k. rw (keeps.total k, keeps.end, keeps.limit) refl;
-  reads = λ k. ap (λ (s : List Bool). Ok (tt {0}, p, s)) (sym (keeps.left k));
-  spells = spells_nothing (tt {0}) p;
-}
-
 -- ---- as the code handles them
-
-pub misses_exact : (n : ℕ) (f g : Flow) (missing : Missing) → Misses n f g missing → place_of g ≡ place_of f
-misses_exact n f g End out = out.keeps.place
-misses_exact n f g Limit out = out.keeps.place
-misses_exact n f g Read lost = lost.place
 
 pub took_as : (n first p value q : ℕ) (was : Bool) (f g : Flow) (now : Reader) → was ≡ true → reader_of was p f ≡ now → TakesBits n value f g → q ≡ p + n → Took (part_of first n) now value (reader_of was q g)
 took_as n first p value q was f g now live view t q_is = rw (← view, live, q_is) (flow_took (part_of first n) value n value p f g t (λ s rest len is. part_exact n first p value s rest len is))
@@ -96,9 +76,6 @@ pub missed_as : (n first p : ℕ) (was : Bool) (f g : Flow) (missing : Missing) 
     → Why (part_of first n) now fault new
 missed_as n first p was f g missing now new fault was_live view out fault_is new_is =
     rw (← view, new_is, was_live, fault_is) (flow_missed (part_of first n) n first p f g missing (λ r short. part_short n first p r short) out)
-
-pub looked_as : (p : ℕ) (was : Bool) (f g : Flow) (now : Reader) → was ≡ true → reader_of was p f ≡ now → LooksOn f g → TookNothing now (reader_of was p g)
-looked_as p was f g now live view looks = rw (← view, live) (kept_nothing p f g (looks_on f g looks))
 
 -- ---- fields of one part
 

@@ -4,14 +4,12 @@ use Rattle.std.specs.Int.{w64, bit_at, bit_not, trailing_zeros}
 use Rattle.std.proofs.lemmas.Bool.{cases_lt}
 use Rattle.std.proofs.lemmas.List.{take-append-drop, length-drop, length-append, append-nil, drop-take}
 use Rattle.std.proofs.lemmas.Nat.{and_le_l, and_mask, shr_le, or_comm, or_shifted, pow_pos}
-use Rattle.std.proofs.lemmas.Nat.Bits.{bit_at_and, bit_at_not, bit_at-lt, and_pow, and_high, and_high_mask}
+use Rattle.std.proofs.lemmas.Nat.Bits.{bit_at_and, bit_at_not, bit_at-lt, and_pow, and_high}
 use Rattle.std.proofs.Math.Nat.{div-eq_of_lt, mod-eq_of_lt}
 use Rattle.std.proofs.Math.Pow.{pow_mono}
-use Rattle.std.proofs.Math.Seq.{drop-append-add}
 use Rattle.bit_grammar.specs.Bits.{bits_of, bits_of_bytes, number}
 use Rattle.bit_grammar.specs.Grammar.{repeat, reading}
 use Rattle.bit_grammar.specs.Fields.{fixed, vbr}
-use Rattle.bit_grammar.proofs.Bits.Numbers.{length-bits_of}
 use Rattle.bit_fields.specs.Buffered.{BufferedBits, Reads, beyond}
 use Rattle.bit_fields.specs.Inside.{part_of}
 use Rattle.bit_fields.specs.Short.{payload_number}
@@ -96,27 +94,8 @@ behind_bytes at bytes there =
     let place : 8 * (at / 8) + at % 8 ≡ at = omega arith in
     ap (λ (xs : List ℕ). drop (at % 8) (bits_of_bytes xs)) (sym (left_after (at / 8) bytes)) ∙ ap (drop (at % 8)) (bytes_dropped (at / 8) bytes (omega (arith, there))) ∙ drop_more (8 * (at / 8)) (at % 8) (bits_of_bytes bytes) ∙ ap (λ (k : ℕ). drop k (bits_of_bytes bytes)) place
 
-pub placed_new : (word held first more position : ℕ) (bytes : List ℕ) → more ≡ held → first + more ≤ position → bits_at (first + more) (position - (first + more)) bytes ≡ beyond (record { position = first; bits = bits_of held word ++ bits_of_bytes bytes }) (position - first)
-placed_new word held first more position bytes more_is le =
-    let place : first + more + (position - (first + more)) ≡ first + (position - first) = omega (arith, le) in
-    let count : position - first ≡ length (bits_of held word) + (position - (first + more)) = omega (arith, length-bits_of held word, more_is, le) in
-    parts_is (first + more + (position - (first + more))) (first + (position - first)) (drop (position - (first + more)) (bits_of_bytes bytes)) (drop (position - first) (bits_of held word ++ bits_of_bytes bytes)) place
-    (sym (ap (λ (k : ℕ). drop k (bits_of held word ++ bits_of_bytes bytes)) count ∙ drop-append-add (bits_of held word) (bits_of_bytes bytes) (position - (first + more))))
-
--- ---- buffered bits at the place
-
 pub low_three : (at : ℕ) → bit_and at 7 ≡ at % 8
 low_three at = and_mask at 3
-
-pub part_there : (at : ℕ) (bytes : List ℕ) → at ≤ 8 * length bytes → bit_and at 7 ≤ length (bits_of_bytes (take (length bytes - at / 8) (drop (at / 8) bytes)))
-part_there at bytes there = omega (arith, low_three at, length-bits_of_bytes (take (length bytes - at / 8) (drop (at / 8) bytes)), ap length (left_after (at / 8) bytes), length-drop (at / 8) bytes, there)
-
-pub placed_from : (start at : ℕ) (bytes : List ℕ) (a b : BufferedBits) → at ≤ 8 * length bytes → at < 2 ^ 64 → a ≡ record { position = start + bit_and at 18446744073709551608; bits = bits_of_bytes (take (length bytes - at / 8) (drop (at / 8) bytes)) } → b ≡ beyond a (bit_and at 7) → b ≡ bits_at start at bytes
-placed_from start at bytes a b there fits a_is b_is =
-    let high : bit_and at 18446744073709551608 ≡ at / 8 * 8 = and_high_mask 64 3 (omega arith) at fits in
-    let place : start + bit_and at 18446744073709551608 + bit_and at 7 ≡ start + at = omega (arith, high, low_three at) in
-    let left : drop (bit_and at 7) (bits_of_bytes (take (length bytes - at / 8) (drop (at / 8) bytes))) ≡ drop at (bits_of_bytes bytes) = ap (λ (k : ℕ). drop k (bits_of_bytes (take (length bytes - at / 8) (drop (at / 8) bytes)))) (low_three at) ∙ behind_bytes at bytes there in
-    b_is ∙ ap (λ (x : BufferedBits). beyond x (bit_and at 7)) a_is ∙ parts_is (start + bit_and at 18446744073709551608 + bit_and at 7) (start + at) (drop (bit_and at 7) (bits_of_bytes (take (length bytes - at / 8) (drop (at / 8) bytes)))) (drop at (bits_of_bytes bytes)) place left
 
 -- ---- loads
 
@@ -247,18 +226,6 @@ further_on start from at bytes on =
 pub has_more : (n i j k len start from at to : ℕ) (bytes : List ℕ) → k ≡ i + j → from ≤ at → to ≡ at + len → HasNumbers n i (bits_at start from bytes) (at - from) → HasNumbers n j (bits_at start at bytes) len → HasNumbers n k (bits_at start from bytes) (to - from)
 has_more n i j k len start from at to bytes k_is on to_is first later =
     has_both n i j k (at - from) len (to - from) (bits_at start from bytes) k_is (omega (arith, on, to_is)) first (subst (λ (a : BufferedBits). HasNumbers n j a len) (further_on start from at bytes on) later)
-
--- some more numbers were passed
-pub further : (n count left some len start from here to s t : ℕ) (bytes others more : List ℕ) → left ≤ count → some ≤ left → s ≡ start → t ≡ s → from ≤ here → bits_at s here others ≡ beyond (bits_at start from bytes) (here - from) → bits_at t to more ≡ beyond (bits_at s here others) len
-    → HasNumbers n (count - left) (bits_at start from bytes) (here - from) → HasNumbers n some (bits_at s here others) len → (from ≤ to) × (bits_at t to more ≡ beyond (bits_at start from bytes) (to - from)) × HasNumbers n (count - (left - some)) (bits_at start from bytes) (to - from)
-further n count left some len start from here to s t bytes others more few enough s_is t_is on was is first later =
-    let a : BufferedBits = bits_at start from bytes in
-    let place : to ≡ here + len = omega (arith, ap (λ (x : BufferedBits). x.position) is, s_is, t_is) in
-    let all : to - from ≡ here - from + len = omega (arith, place, on) in (
-      omega (arith, place, on),
-      is ∙ ap (λ (x : BufferedBits). beyond x len) was ∙ beyond_both a (here - from) len ∙ ap (beyond a) (sym all),
-      has_both n (count - left) some (count - (left - some)) (here - from) len (to - from) a (omega (arith, few, enough)) all first (subst (λ (x : BufferedBits). HasNumbers n some x len) was later),
-    )
 
 -- ---- a short number in chunks of six bits
 

@@ -1,9 +1,9 @@
 -- A reader that shows bits, moves on by them, and returns its source.
-use Rattle.std.proofs.Common.{◌≡◌, ℕ, ◌+◌, ◌-◌, ◌≤◌, ◌⊎◌, Bool, true, false, [], length, refl, sym, ap, ◌∙◌, subst, arith, inl, inr}
+use Rattle.std.proofs.Common.{◌≡◌, ℕ, ◌⊎◌, Bool, true, false, [], length, refl, sym, ap, ◌∙◌, arith, inl, inr}
 use Rattle.std.proofs.lemmas.Bool.{false≢true}
-use Rattle.bit_fields.specs.Buffered.{BufferedBits, ShowsBits, reader_further}
+use Rattle.bit_fields.specs.Buffered.{BufferedBits, ShowsBits}
 use Rattle.bit_fields.specs.Devices.{Incoming, Spends, Fails}
-use Rattle.bit_fields.specs.Inflow.{Flow, budget_of, there_of, Shows, Advances, HandsOver}
+use Rattle.bit_fields.specs.Inflow.{Flow, budget_of, Shows, HandsOver}
 use Rattle.bit_fields.specs.Inside.{reader_of, IsReader}
 use Rattle.bit_fields.specs.Reader.{Reader, GivenBack, Returned}
 use Rattle.bit_fields.proofs.InflowLaws.{looks_on}
@@ -42,20 +42,6 @@ shows_nothing now p b here b_is = rw (b_is ∙ ap no_bits_at here) (record {
   front = λ k. (now.left, refl);
   there = omega arith;
 })
-
--- ---- a reader that moves on
-
-pub moved_on : (live : Bool) (p n : ℕ) (f g : Flow) (now : Reader) → reader_of live p f ≡ now → live ≡ true → Advances n f g → reader_of live (p + n) g ≡ reader_further now n
-moved_on live p n f g now view alive adv =
-    let there : there_of g ≡ there_of f - n = omega (arith, adv.there) in
-    rw (← view, alive) (rw (adv.left, adv.total, there, adv.budget, adv.end, adv.limit, adv.incoming) refl)
-
--- a failed reader stays
-pub stays_there : (live : Bool) (p n : ℕ) (f : Flow) (now : Reader) → reader_of live p f ≡ now → live ≡ false → n ≤ now.there → reader_of live p f ≡ reader_further now n
-stays_there live p n f now view dead few =
-    let none : n ≡ 0 = let h = subst (λ (r : Reader). n ≤ r.there) (sym view) few in let k = rw dead at h in omega (arith, k) in
-    let place : p ≡ p + 0 = omega arith in
-    rw (← view, none, dead) (ap (λ (q : ℕ). record (reader_of false p f) { position = q }) place)
 
 -- ---- the source
 

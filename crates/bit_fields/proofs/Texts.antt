@@ -1,8 +1,8 @@
 -- Bits that are held in memory, in bytes.
-use Rattle.std.proofs.Common.{◌≡◌, ℕ, zero, suc, ◌+◌, ◌*◌, ◌-◌, ◌/◌, ◌%◌, ◌^◌, ◌<◌, ◌≤◌, ◌==◌, Bool, true, false, inl, inr, List, [], ◌∷◌, ◌++◌, length, take, drop, get_or, replicate, Result, Ok, Err, eqb-true, refl, sym, ap, subst, ◌∙◌, arith, append_assoc, drop-cons, length-append, length-drop, length-set, add-one, bit_and}
+use Rattle.std.proofs.Common.{◌≡◌, ℕ, zero, suc, ◌+◌, ◌*◌, ◌-◌, ◌/◌, ◌%◌, ◌^◌, ◌<◌, ◌≤◌, ◌==◌, Bool, true, false, inl, inr, List, [], ◌∷◌, ◌++◌, length, take, drop, get_or, replicate, Result, Ok, Err, eqb-true, refl, sym, ap, subst, ◌∙◌, arith, append_assoc, drop-cons, length-append, length-drop, length-set, bit_and}
 use Rattle.std.proofs.Math.ListN.{set}
 use Rattle.std.proofs.Math.Seq.{drop-append_seam, take-append_seam, take-append-add, drop-append-add}
-use Rattle.std.proofs.lemmas.List.{append-nil, drop_all, take_at, take_all, drop_at, take-append-le, drop-append-le, take-append-drop, length-take-le, length-replicate, drop-set-lt, drop-drop}
+use Rattle.std.proofs.lemmas.List.{append-nil, take_at, take_all, drop_at, take-append-le, drop-append-le, take-append-drop, length-take-le, length-replicate, drop-set-lt, drop-drop}
 use Rattle.std.proofs.lemmas.Grind.{take-set_at}
 use Rattle.std.proofs.lemmas.Bool.{cases_lt}
 use Rattle.std.proofs.lemmas.Nat.{and_mask}

@@ -1,39 +1,13 @@
 -- Bytes as a word.
-use Rattle.std.proofs.Common.{◌≡◌, ℕ, ◌+◌, ◌*◌, ◌-◌, ◌^◌, ◌<◌, ◌≤◌, min, Bool, List, [], ◌∷◌, ◌++◌, length, take, drop, get_or, Option, Some, None, Result, Ok, Err, refl, sym, ap, subst, ◌∙◌, arith, take-take, append_assoc}
+use Rattle.std.proofs.Common.{◌≡◌, ℕ, ◌+◌, ◌-◌, ◌^◌, ◌<◌, ◌≤◌, min, List, [], ◌∷◌, ◌++◌, length, take, drop, Option, Some, None, Result, Ok, Err, refl, sym, ap, subst, ◌∙◌, arith}
 use Rattle.std.specs.Io.KnownBytes as bytes
 use Rattle.std.proofs.KnownBytes.{Keeps-trans}
-use lib.Seq.{take-append_seam}
-use Rattle.std.proofs.lemmas.List.{length-append, length-take-le, take-append-le, take-append-drop, drop_all, take_all, length-drop}
-use Rattle.bit_grammar.specs.Bits.{bits_of, bits_of_bytes}
-use Rattle.std.specs.Int.{w32, to_le_bytes}
-use Rattle.bit_fields.proofs.BitLaws.{le_bytes_bits_32, bits_of_bytes-append}
-use Rattle.bit_fields.specs.Devices.{Account, SaysOf, Incoming, IsFresh, IsWorn, Begins, Looked, Gave, GaveNone, GaveWord, GaveUnseen, PullsUnseen}
+use Rattle.std.proofs.lemmas.List.{length-append, take-append-le, take-append-drop, drop_all, take_all, length-drop}
+use Rattle.bit_fields.specs.Devices.{Account, SaysOf, Incoming, IsFresh, IsWorn, Looked, Gave, GaveNone, GaveUnseen, PullsUnseen}
 use Rattle.bit_fields.specs.declared.source.SourceFailed.{SourceFailed}
 
 abbrev zeros : List ℕ
 zeros = 0 ∷ 0 ∷ 0 ∷ 0 ∷ 0 ∷ 0 ∷ 0 ∷ 0 ∷ []
-
--- ---- four bytes
-
-pub four_first : (s : List ℕ) → 4 ≤ length s → get_or s 0 0 ∷ get_or s 1 0 ∷ get_or s 2 0 ∷ get_or s 3 0 ∷ [] ≡ take 4 s
-four_first [] long = absurd (omega arith)
-four_first (a ∷ []) long = absurd (omega arith)
-four_first (a ∷ b ∷ []) long = absurd (omega arith)
-four_first (a ∷ b ∷ c ∷ []) long = absurd (omega arith)
-four_first (a ∷ b ∷ c ∷ d ∷ s) long = refl
-
-pub four_bits : (n : ℕ) (four bytes : List ℕ) → to_le_bytes w32 n ≡ four → four ≡ take 4 bytes → bits_of 32 n ≡ bits_of_bytes (take 4 bytes)
-four_bits n four bytes is front = sym (le_bytes_bits_32 n) ∙ ap bits_of_bytes (is ∙ front)
-
--- the first bytes are appended to a window, and the bits stay the same
-pub some_moved : (count : ℕ) (window new : List Bool) (word : ℕ) (bytes : List ℕ) → new ≡ window ++ bits_of (8 * count) word → bits_of (8 * count) word ≡ bits_of_bytes (take count bytes) → new ++ bits_of_bytes (take (length bytes - count) (drop count bytes)) ≡ window ++ bits_of_bytes bytes
-some_moved count window new word bytes is bits =
-    let whole : take (length bytes - count) (drop count bytes) ≡ drop count bytes = take_all (length bytes - count) (drop count bytes) (omega (arith, length-drop count bytes)) in
-    let parts : bits_of_bytes (take count bytes) ++ bits_of_bytes (drop count bytes) ≡ bits_of_bytes bytes = sym (bits_of_bytes-append (take count bytes) (drop count bytes)) ∙ ap bits_of_bytes (take-append-drop count bytes) in
-    ap (λ (s : List Bool). s ++ bits_of_bytes (take (length bytes - count) (drop count bytes))) (is ∙ ap (λ (s : List Bool). window ++ s) bits)
-    ∙ ap (λ (s : List ℕ). (window ++ bits_of_bytes (take count bytes)) ++ bits_of_bytes s) whole
-    ∙ append_assoc window (bits_of_bytes (take count bytes)) (bits_of_bytes (drop count bytes))
-    ∙ ap (λ (s : List Bool). window ++ s) parts
 
 -- ---- bytes that are skipped
 
@@ -95,37 +69,7 @@ none_looked a b c looked none = record {
   accounts = λ n all says. none.accounts n all (looked.accounts n all says);
 }
 
--- ---- a word of bytes that were seen before
-
--- the bytes taken are the first of the bytes seen
-front_consumed : (i j : Option (List ℕ)) (seen gone : List ℕ) (count : ℕ) → bytes.Consumes i j gone → Begins i seen → length gone ≡ count → count ≤ length seen → bytes.Consumes i j (take count seen)
-front_consumed None j seen gone count gave begins len few = tt
-front_consumed (Some xs) None seen gone count gave begins len few = absurd gave
-front_consumed (Some xs) (Some ys) seen gone count gave begins len few =
-    let front : take count seen ≡ gone = ap (take count) (sym begins) ∙ take-take count (length seen) xs few ∙ ap (take count) gave ∙ ap (λ (n : ℕ). take n (gone ++ ys)) (sym len) ∙ take-append_seam gone ys in
-    gave ∙ ap (λ (s : List ℕ). s ++ ys) (sym front)
-
-pub word_unseen : (a b c : Incoming) (seen : List ℕ) (room word count : ℕ) → Looked a b → Begins a.to_come seen → length seen ≡ 8 → 0 < room → room ≤ 8 → GaveUnseen b c room count → word < 2 ^ (8 * count) → bits_of (8 * count) word ≡ bits_of_bytes (take count seen) → GaveWord a c room word count
-word_unseen a b c seen room word count looked begins long some few unseen below bits =
-    let gave : Gave a c count unseen.into = gave_looked a b c count unseen.into looked unseen.gave in
-    let wide : length (take room seen) ≡ room = length-take-le room seen (omega (arith, long, few)) in
-    let same : take count (take room seen) ≡ take count seen = take-take count room seen unseen.few in
-    let gone : bytes.Consumes a.to_come c.to_come (take count seen) = front_consumed a.to_come c.to_come seen (take count unseen.into) count gave.bytes begins (length-take-le count unseen.into gave.fits) (omega (arith, long, few, unseen.few)) in
-    record {
-      into = take room seen;
-      wide = wide;
-      gave = record {
-        fresh = gave.fresh;
-        fits = omega (arith, wide, unseen.few);
-        bytes = subst (bytes.Consumes a.to_come c.to_come) (sym same) gone;
-        end = λ none more. gave.end none unseen.some;
-        pulls = gave.pulls;
-        failures = gave.failures;
-        accounts = gave.accounts;
-      };
-      below = below;
-      bits = bits ∙ ap bits_of_bytes (sym same);
-    }
+-- ---- bytes that were seen before are skipped
 
 -- skipped bytes
 pub unseen_looked : (a b c : Incoming) (most : ℕ) (answer : Result ℕ SourceFailed) → Looked a b → PullsUnseen most b c answer → PullsUnseen most a c answer

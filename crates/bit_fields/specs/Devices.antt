@@ -1,8 +1,7 @@
 -- What is known of a source and of a sink, and the effect of their calls.
-use Rattle.std.specs.Prelude.{◌≡◌, ℕ, zero, suc, ◌+◌, ◌*◌, ◌-◌, ◌^◌, ◌<◌, ◌≤◌, ◌⊎◌, max, Bool, true, List, [], ◌∷◌, length, take, Option, Some, None, IsSome, Result, Ok, Err}
+use Rattle.std.specs.Prelude.{◌≡◌, ℕ, zero, suc, ◌+◌, ◌-◌, ◌^◌, ◌<◌, ◌≤◌, ◌⊎◌, max, Bool, true, List, [], ◌∷◌, length, take, Option, Some, None, IsSome, Result, Ok, Err}
 use Rattle.std.specs.Io.KnownBytes.{Consumes, Appends, Keeps, IsAtEnd, prepend_known}
 use Rattle.std.specs.Io.{StartsWith}
-use Rattle.bit_grammar.specs.Bits.{bits_of, bits_of_bytes}
 use Rattle.bit_fields.specs.declared.source.SourceFailed.{SourceFailed}
 use Rattle.bit_fields.specs.declared.sink.SinkFailed.{SinkFailed}
 
@@ -86,19 +85,6 @@ pub record GaveNone (old new : Incoming) : Type 0 where
 abbrev pub Pulls : Incoming → Incoming → Result ℕ SourceFailed → List ℕ → Type 0
 Pulls old new (Ok count) into = Gave old new count into
 Pulls old new (Err e) into = GaveNone old new
-
--- a pull into a word gave what a pull into a slice of `room` bytes gives, the first byte lowest and zeros after the last
-pub record GaveWord (old new : Incoming) (room word count : ℕ) : Type 0 where
-  pub into : List ℕ
-  pub wide : length into ≡ room
-  pub gave : Gave old new count into
-  pub below : word < 2 ^ (8 * count)
-  pub bits : bits_of (8 * count) word ≡ bits_of_bytes (take count into)
-
--- the effect of a pull into a word with room for this many bytes
-abbrev pub PullsWord : ℕ → Incoming → Incoming → Result (ℕ × ℕ) SourceFailed → Type 0
-PullsWord room old new (Ok taken) = GaveWord old new room taken.0 taken.1
-PullsWord room old new (Err e) = GaveNone old new
 
 -- the source was looked at, and nothing was taken
 pub record Looked (old new : Incoming) : Type 0 where

@@ -1,5 +1,5 @@
 -- Numbers in few chunks, as a word holds them: the first chunk lowest, and the continuation bit of each chunk its top bit.
-use Rattle.std.specs.Prelude.{◌≡◌, ℕ, zero, suc, ◌+◌, ◌*◌, ◌-◌, ◌/◌, ◌%◌, ◌^◌, ◌≤◌}
+use Rattle.std.specs.Prelude.{◌≡◌, ℕ, zero, suc, ◌+◌, ◌*◌, ◌/◌, ◌%◌, ◌^◌}
 use Rattle.bit_grammar.specs.Grammar.{gives}
 use Rattle.bit_fields.specs.Reader.{Reader, Took}
 
@@ -9,10 +9,6 @@ EndsChunks payload zero word = ⊥
 EndsChunks payload (suc zero) word = word / 2 ^ payload % 2 ≡ 0
 EndsChunks payload (suc (suc count)) word = (word / 2 ^ payload % 2 ≡ 1)
     × EndsChunks payload (suc count) (word / 2 ^ suc payload)
-
--- the number at the low end of a word has this many bits, at most four chunks
-abbrev pub EndsAt : (n bits word : ℕ) → Type 0
-EndsAt n bits word = (count : ℕ) × (count ≤ 4) × (bits ≡ n * count) × EndsChunks (n - 1) count word
 
 -- the payloads of `count` chunks as one number
 abbrev pub payload_number : (payload count word : ℕ) → ℕ

@@ -1,8 +1,7 @@
 use Rattle.std.proofs.Common.{ℕ, Bool, List, length, take, Err, ap, subst, arith, length-append}
-use Rattle.std.specs.Global.{Vec}
 use Rattle.std.proofs.lemmas.Result.{err_from_is_err_and}
 use Rattle.bit_grammar.specs.Bits.{bits_of_bytes}
-use Rattle.bit_fields.specs.Writer.{Writes, Wrote}
+use Rattle.bit_fields.specs.Writer.{Writes}
 use Rattle.bit_fields.specs.Texts.{bits_of_chunks}
 use Rattle.bit_fields.proofs.Texts.{chunks-length, taken-length}
 use Rattle.bit_fields.proofs.WriterLaws.{not_written, wrote_then}
