@@ -28,8 +28,8 @@ use Rattle.bit_events.specs.declared.passing.PassedRun.{PassedRun}
 use Rattle.bit_events.specs.Gathering.{Gathers, left_open}
 use Rattle.bit_events.specs.MachineView.{frames_shown, handed_shown, is_info, machine_shown, marks_of, open_in, record_of, record_rule, InPlain, IsMachine, Unchanged}
 use Rattle.bit_events.specs.Passing.{coming_of, values_of, GathersRecords, PassesRun, ReadsRecord, ReadsRecords}
-use Rattle.bit_events.specs.Runs.{after_record, FindsHere, GathersOn, NotesHere, StopsOn}
-use Rattle.bit_events.proofs.Blocks.{on_both, on_none, on_step, on_unchanged, stop_step}
+use Rattle.bit_events.specs.Runs.{after_record, FindsHere, GathersOn, GathersUpTo, NotesHere, StopsOn}
+use Rattle.bit_events.proofs.Blocks.{on_both, on_none, on_step, on_unchanged, passed_beyond, stop_after, stop_step}
 use Rattle.bit_events.proofs.Folds.{first_bits}
 use Rattle.bit_events.proofs.Framing.{none_described}
 use Rattle.bit_events.proofs.Framing as framing
@@ -235,3 +235,25 @@ pub note_stops : {G : Type 0} (gathered : G → List Event → G → Type 0) (fa
 note_stops gathered fails limits m a g head list n h note moves failed =
     let event : Event = record_of head.«abbrev» list head.first (head.code, head.after) in
     stop_step gathered fails limits m a g event n note.0 h note.2 (omega (arith, moves, note.1)) (inr failed)
+
+-- ---- one after another, by the limits that the machine has then
+
+pub on_later : {G : Type 0} (gathered : G → List Event → G → Type 0) (m : Machine) (a : BufferedBits) (g : G) (n : Machine) (b : BufferedBits) (h : G) (o : Machine) (c : BufferedBits) (k : G) → GathersOn gathered m.limits m a g n b h → GathersOn gathered n.limits n b h o c k → GathersOn gathered m.limits m a g o c k
+on_later gathered m a g n b h o c k p q = on_both gathered m.limits m a g n b h o c k p (subst (λ (l : Limits). GathersOn gathered l n b h o c k) p.same_limits q)
+
+pub stop_later : {G : Type 0} (gathered : G → List Event → G → Type 0) (fails : G → Option Event → G → Type 0) (m : Machine) (a : BufferedBits) (g : G) (n : Machine) (b : BufferedBits) (h k : G) → GathersOn gathered m.limits m a g n b h → StopsOn gathered fails n.limits n b h k → StopsOn gathered fails m.limits m a g k
+stop_later gathered fails m a g n b h k p q = stop_after gathered fails m.limits m a g n b h k p (subst (λ (l : Limits). StopsOn gathered fails l n b h k) p.same_limits q)
+
+-- no more bits are left than there were
+pub on_shorter : {G : Type 0} (gathered : G → List Event → G → Type 0) (limits : Limits) (m : Machine) (a : BufferedBits) (g : G) (n : Machine) (b : BufferedBits) (h : G) → GathersOn gathered limits m a g n b h → length b.bits ≤ length a.bits
+on_shorter gathered limits m a g n b h on = omega (arith, ap length on.passed.1, length-append on.passed.0 b.bits)
+
+-- the bits behind them are those from their place on
+pub on_place : {G : Type 0} (gathered : G → List Event → G → Type 0) (limits : Limits) (m : Machine) (a : BufferedBits) (g : G) (n : Machine) (after : ℕ) (h : G) (x : BufferedBits) → GathersUpTo gathered limits m a g n after h → x ≡ beyond a (after - a.position) → GathersOn gathered limits m a g n x h
+on_place gathered limits m a g n after h x p is =
+    let same : beyond a (after - a.position) ≡ p.0 = passed_beyond a p.0 (after - a.position) p.2.passed (ap (λ (q : ℕ). q - a.position) (sym p.1)) in
+    subst (λ (y : BufferedBits). GathersOn gathered limits m a g n y h) (sym (is ∙ same)) p.2
+
+-- the same up to a bit, behind what was gathered before
+pub up_to_later : {G : Type 0} (gathered : G → List Event → G → Type 0) (m : Machine) (a : BufferedBits) (g : G) (n : Machine) (b : BufferedBits) (h : G) (o : Machine) (after : ℕ) (k : G) → GathersOn gathered m.limits m a g n b h → GathersUpTo gathered n.limits n b h o after k → GathersUpTo gathered m.limits m a g o after k
+up_to_later gathered m a g n b h o after k p q = (q.0, q.1, on_later gathered m a g n b h o q.0 k p q.2)

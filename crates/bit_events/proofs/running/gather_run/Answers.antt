@@ -3,6 +3,7 @@ use Rattle.std.proofs.lemmas.Result.{err_from_is_err_and}
 use Rattle.bit_fields.specs.PlacedView.{placed}
 use Rattle.bit_abbrev.specs.BlockMarks.{in_force}
 use Rattle.bit_events.specs.Passing.{coming_of, PassesRun}
+use Rattle.bit_events.proofs.Blocks.{on_none}
 use Rattle.bit_events.proofs.Machines.{stands_with}
 use Rattle.bit_events.proofs.Noting.{lent_run, stop_bits}
 use Rattle.bit_events.proofs.Stepping.{open_last}
@@ -28,3 +29,9 @@ returns-in_err-run-clause-stops g c =
     let m = c.args.machine.now in
     let p = err_from_is_err_and c.from_residual.result c.from_residual.ensures.1 in
     rw p.1 (stop_bits g.G.Gatherer.gathered g.G.Gatherer.fails m.limits m (placed c.args.bits) c.args.gatherer.now c.lend_run.new.gatherer c.in_err-run.ensures.fails)
+
+pub returns-then-not-has-clause-gathers : goal.returns-then-not-has-clause-gathers
+returns-then-not-has-clause-gathers g c = on_none g.G.Gatherer.gathered c.args.machine.now.limits c.args.machine.now (placed c.args.bits) c.args.gatherer.now c.requires.sound c.requires.aligned
+
+pub returns-in_default-clause-gathers : goal.returns-in_default-clause-gathers
+returns-in_default-clause-gathers g c = on_none g.G.Gatherer.gathered c.args.machine.now.limits c.args.machine.now (placed c.args.bits) c.args.gatherer.now c.requires.sound c.requires.aligned
