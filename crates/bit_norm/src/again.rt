@@ -117,7 +117,7 @@ mod tests {
             wide = wide.saturating_add((count == width) as usize);
             rest = behind;
         }
-        (wide, rest.is_empty() && rejoined.lend() == &[251])
+        (wide, rest.is_empty() && rejoined.lend() == [251].as_slice())
     }
 
     #[test]
