@@ -48,3 +48,89 @@ pub(crate) struct Again<'a> {
     ghost few: { more ≤ length rest.now },
     ghost none: { more ≡ 0 → rest.now ≡ [] },
 }
+
+#[cfg(test)]
+mod tests {
+    use super::*;
+    use crate::rejoined::Rejoined;
+    use bit_fields::{SliceSource, Source};
+    use std::process::Abort;
+
+    /// Widths of slices, from one byte to many.
+    static WIDTHS: [u32; 14] = [
+        65536,
+        65536,
+        65536,
+        7,
+        7,
+        1,
+        2,
+        32767,
+        32768,
+        32768,
+        0x4000_0000,
+        3,
+        4096,
+        65535,
+    ];
+
+    /// Widths of few bytes.
+    static NARROW: [u32; 14] = [1, 1, 1, 7, 7, 1, 2, 327, 256, 256, 1000, 3, 64, 255];
+
+    /// Counts slices of these widths.
+    fn counted(widths: &[u32]) -> Slices {
+        let mut slices = Slices::new();
+        for width in widths {
+            if slices.bytes < 1 << 60 {
+                slices.add((*width).max(1) as usize);
+            }
+        }
+        slices
+    }
+
+    /// Bytes of which no two neighbours are equal.
+    fn many_bytes() -> [u8; 16384] {
+        let mut bytes = [0; 16384];
+        for (place, byte) in bytes.iter_mut().enumerate() {
+            *byte = (place % 251) as u8;
+        }
+        bytes
+    }
+
+    /// Gives the first bytes again in these slices, and then one byte more. Returns how many slices have this width, and whether all
+    /// bytes came again.
+    fn given(all: &[u8], slices: Slices, width: usize) -> (usize, bool) {
+        if slices.bytes > all.len() {
+            return (0, false);
+        }
+        let mut rest = &all[..slices.bytes];
+        let again = Again::new(rest, slices.count, &[251]);
+        let mut rejoined = Rejoined::new(again, SliceSource::new(&[]), false);
+        let mut wide: usize = 0;
+        for _ in 0..slices.count {
+            let slice = rejoined.lend();
+            let count = slice.len().max(1).min(rest.len());
+            let (front, behind) = rest.split_at(count);
+            if slice != front || rejoined.pass(count.max(1)) != Ok(count) {
+                return (wide, false);
+            }
+            wide = wide.saturating_add((count == width) as usize);
+            rest = behind;
+        }
+        (wide, rest.is_empty() && rejoined.lend() == [251].as_slice())
+    }
+
+    #[test]
+    fn widths_come_again(rt: HostRuntime) {
+        let slices = counted(&WIDTHS);
+        assert_eq!(rt; (slices.bytes, slices.count), (1_074_106_386, 14));
+        let all = many_bytes();
+        for width in &NARROW {
+            let told = given(&all, counted(&[*width; 14]), *width as usize);
+            assert!(rt; told == (14, true), "{width} {told:?}");
+        }
+        // 14 slices have 2181 bytes: the first three have 155 each, and the others 156.
+        assert_eq!(rt; given(&all, counted(&NARROW), 155), (3, true));
+        assert_eq!(rt; given(&all, counted(&NARROW), 156), (11, true));
+    }
+}

@@ -15,7 +15,7 @@ use bit_tree::Info;
 use std::alloc::Global;
 
 #[cfg(test)]
-mod asking_tests;
+mod early_tests;
 
 /// Whether two slices have the same bytes.
 #[inline(always)]

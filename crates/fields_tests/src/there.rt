@@ -190,17 +190,94 @@ fn runs_of_what_is_read(rt: HostRuntime) {
     }
 }
 
-/// The bytes that come next after a number of eight bits: two of them, and the others.
+/// Whether they ended with the fault of a failed source, within its bytes.
+fn is_failure(told: (Far, Option<Fault>, u64), bytes: u64) -> bool {
+    let (far, fault, position) = told;
+    fault == Some(Fault::Read) && far.place < 8 * bytes && position <= 8 * bytes
+}
+
+/// Of the reads after the magic, those that show again what was shown.
+static SHOWN_AGAIN: [u64; 4] = [5, 8, 11, 14];
+
+#[test]
+fn failures_of_what_is_shown(rt: HostRuntime) {
+    let input = after_magic(&BYTES);
+    let told = plain(&rt, &input);
+    for fails_at in 4..16 {
+        // bytes that the source fails to show again are read
+        let far = runs_of(&rt, shown_source(&input, 5, fails_at), 2);
+        let goes_on = SHOWN_AGAIN.contains(&fails_at);
+        assert!(rt;
+            is_failure(far, 24) != goes_on && (is_failure(far, 24) || same(far, told)),
+            "{fails_at}"
+        );
+    }
+}
+
+/// A magic, and the bytes of every kind of field five times.
+fn five_times() -> [u8; 104] {
+    let mut input = [0; 104];
+    input[..24].copy_from_slice(&after_magic(&BYTES));
+    for turn in 1..5usize {
+        input[4 + 20 * turn..24 + 20 * turn].copy_from_slice(&BYTES);
+    }
+    input
+}
+
+/// Of the reads of 80 lent bytes and 24 others, those that do not show lent bytes again: the lent bytes that are read are passed, and
+/// the others are pulled; at their end more are looked for, and pulled.
+static ASKED: [u64; 4] = [62, 63, 64, 65];
+
+#[test]
+fn failures_of_what_is_lent(rt: HostRuntime) {
+    let input = five_times();
+    let (wanted, fault, position) = runs_of(&rt, SliceSource::new(&input), 2);
+    let told = (wanted.values, fault, position);
+    for fails_at in 2..80 {
+        let far = runs_of(&rt, shown_source(&input, 80, fails_at), 2);
+        let fails = ASKED.contains(&fails_at);
+        assert!(rt;
+            is_failure(far, 104) == fails && (fails || same(far, told)),
+            "{fails_at}"
+        );
+    }
+}
+
+/// How many bits are there, and the result of a field of 32 bits; and both again.
+fn parts_told<S: Source>(reader: &mut BitReader<S>) -> [(u64, Result<u64, Fault>); 2] {
+    let there = reader.bits().len();
+    let first = (there, reader.fixed(32));
+    let there = reader.bits().len();
+    [first, (there, reader.fixed(32))]
+}
+
+#[test]
+fn failed_parts(rt: HostRuntime) {
+    let input = after_magic(&BYTES);
+    let mut reader = reader_of(&rt, shown_source(&input, 5, 4), Limits::usual());
+    // the byte that was taken with the magic is there, and of a failed reader nothing is
+    let told = parts_told(&mut reader);
+    let wanted = [(8, Err(Fault::Read)), (0, Err(Fault::Failed))];
+    assert!(rt; told == wanted && reader.position() == 32, "{told:?}");
+}
+
+/// Adds bytes to the values before them.
+fn mix_bytes(before: u64, bytes: &[u8]) -> u64 {
+    let mut told = before;
+    for byte in bytes {
+        told = mix(told, u64::from(*byte));
+    }
+    told
+}
+
+/// The bytes that come next after a number of eight bits: two of them, and all by turns, first those two and then the others.
 fn bytes_told<S: Source>(reader: &mut BitReader<S>) -> (usize, u64) {
     let _ = reader.fixed(8);
     let bits = reader.bits();
     let first = bits.whole_bytes(2);
-    let all = bits.whole_bytes(u64::MAX);
-    let mut told = 0;
-    for byte in all {
-        told = mix(told, u64::from(*byte));
-    }
-    (first.len(), told)
+    let behind = bits.after(8 * first.len() as u64);
+    let told = mix_bytes(0, first);
+    (first.len(), mix_bytes(told, behind.whole_bytes(u64::MAX)))
 }
 
 /// The mixed bytes from 1 up to a last one.
@@ -218,7 +295,7 @@ const COUNTED: [u8; 20] = [
 ];
 
 #[test]
-fn bytes_that_are_there(rt: HostRuntime) {
+fn buffered_bytes(rt: HostRuntime) {
     let mut reader = reader_of(&rt, SliceSource::new(&COUNTED), Limits::usual());
     let told = bytes_told(&mut reader);
     assert!(rt; told == (2, mixed_up_to(15)), "{told:?}");
@@ -265,7 +342,7 @@ const PADDED: [(u64, Option<(u64, u64)>); 9] = [
 ];
 
 #[test]
-fn padding_that_is_there(rt: HostRuntime) {
+fn buffered_padding(rt: HostRuntime) {
     let input = after_magic(&[1, 0, 0, 0, 0x55]);
     for (count, wanted) in &PADDED {
         let mut reader = reader_of(&rt, SliceSource::new(&input), Limits::usual());

@@ -81,6 +81,31 @@ fn fields_in_steps(rt: HostRuntime) {
     }
 }
 
+/// Whether a reader that shows its bytes gives the same as one that only gives them, if both fail at the same pull.
+fn fail_alike(n: u32, step: usize, fails_at: u64) -> bool
+    requires some { 0 < n }
+    requires few { n ≤ 32 }
+    requires first { 0 < fails_at }
+    requires last { fails_at < 100 }
+{
+    let read = fields_of(in_steps(&INPUT, step, fails_at), n);
+    // the bytes of a pull are looked for, shown, and read
+    let looked_for = fields_of(shown_source(&INPUT, step, 3 * fails_at - 2), n);
+    let taken = fields_of(shown_source(&INPUT, step, 3 * fails_at), n);
+    // bytes that the reader fails to show again are read
+    let shown = fields_of(shown_source(&INPUT, step, 3 * fails_at - 1), n);
+    read.1 == Some(Fault::Read) && looked_for == read && taken == read && shown == whole(25, n)
+}
+
+#[test]
+fn failures_in_steps(rt: HostRuntime) {
+    for n in 1..33u32 {
+        for (step, fails_at) in [(5, 1), (5, 2), (5, 3), (5, 5), (9, 1), (9, 2), (9, 3)] {
+            assert!(rt; fail_alike(n, step, fails_at), "{n} {step} {fails_at}");
+        }
+    }
+}
+
 /// All fields of n bits in the first `given` bytes, and then the failure of the source.
 fn up_to(given: usize, n: u32) -> (u64, Option<Fault>)
     requires some { 0 < n }
