@@ -16,6 +16,8 @@ use std::alloc::Global;
 
 #[cfg(test)]
 mod early_tests;
+#[cfg(test)]
+mod other_bytes_tests;
 
 /// Whether two slices have the same bytes.
 #[inline(always)]

@@ -36,6 +36,8 @@ mod form_writer_tests;
 mod in_step;
 #[cfg(test)]
 mod input_tests;
+#[cfg(test)]
+mod lendings;
 mod lengths;
 mod magics;
 mod normalising;
