@@ -14,6 +14,7 @@ pub mod Kept
 pub mod Standings
 mod Named
 pub mod Rest
+pub mod PassedEvents
 pub mod InPlace
 pub mod PassedOver
 pub mod Machines

@@ -159,6 +159,8 @@ Goes old (Err fault) new = BreaksOff old fault new
 
 -- nothing was read, and the source was at most looked at
 pub record OnlyLooksAt (old new : Coming) : Type 0 where
+  -- the source is looked at only if events come
+  pub idle : (old.stage ≡ going → ⊥) → new ≡ old
   pub stage : new.stage ≡ old.stage
   pub head : new.head ≡ old.head
   pub depth : new.depth ≡ old.depth

@@ -54,7 +54,7 @@ impl Gatherer for Nothing {
     fn pass(
         &mut self,
         next: Coming<'_>,
-        definitions: BlockDefinitions<'_>,
+        definitions: &mut BlockDefinitions<'_>,
     ) -> Result<PassedRun, AllocError> {
         pass_records(next, definitions, &mut Uncounted)
     }

@@ -1,8 +1,13 @@
 //! Finding the events of a stream, one at a time.
 
-ghost use Rattle.std.specs.Prelude.{◌≡◌, ⊤, ℕ, List, ◌<◌, ◌≤◌, IfErr, IfNone, IfOk, IfSome};
+ghost use Rattle.std.specs.Prelude.{◌≡◌, ⊤, ℕ, List, ◌∷◌, ◌<◌, ◌≤◌, None, false, IfErr, IfNone, IfOk, IfSome};
+ghost use Rattle.bit_abbrev.specs.declared.definitions.Marks.{Marks};
+ghost use Rattle.bit_abbrev.specs.BlockMarks.{in_force, Stands};
+ghost use Rattle.bit_abbrev.specs.BlockPlans.{KeepsBlock};
+ghost use Rattle.bit_events.specs.Passing.{CountsRun};
 ghost use Rattle.bit_abbrev.specs.Values.{Gains};
-ghost use Rattle.bit_events.specs.Coming.{over, Coming, BreaksOff, DropsEvents, GivesEvent, OnlyLooksAt, PassesEvents};
+ghost use Rattle.bit_events.specs.Coming.{over, BreaksOff, DropsEvents, GivesEvent, OnlyLooksAt, PassesEvents, PassesNext};
+ghost use Rattle.bit_events.specs.Coming as coming;
 ghost use Rattle.bit_events.specs.MachineView.{record_of, TookSome};
 ghost use Rattle.bit_events.specs.Runs.{AddsBehind};
 ghost use Rattle.std.specs.Borrow.{Bor, sem, follows_so};
@@ -16,9 +21,9 @@ use crate::event::{Event, RecordHead};
 use crate::folding::gather_rest;
 use crate::gatherer::Gatherer;
 use crate::machine::{Machine, Step};
-use crate::passing::{CountedRecord, RunCounter, pass_records};
+use crate::passing::{CountedRecord, PassedRun, RunCounter, pass_records};
 use crate::with_first::WithFirst;
-use bit_abbrev::{Abbrev, BlockDefinitions, Coming};
+use bit_abbrev::{Abbrev, BlockDefinitions, Coming, Definitions, Marks};
 use bit_fields::{
     BitReader, Fault, Head, Limits, PackedValues, SliceSource, Source, ValueCount, ValueKeeper,
     ValueTaker,
@@ -59,6 +64,36 @@ impl<S: Source, V: ValueKeeper> Model for EventFinder<S, V> {
         e.reached e.reader };
 
     ghost invariant = { λ e. IsEvents e.over e.limits e.machine e.found e.reached e.reader };
+}
+
+/// Drops the last event and its values, so that values are held once. In a run of records only the first one comes after such an
+/// event.
+#[inline(always)]
+fn forget<V: ValueKeeper>(found: &mut Option<Step>, values: &mut WithFirst<V>)
+    ensures { found.new ≡ None }
+{
+    if found.is_some() {
+        values.clear();
+        *found = None;
+    }
+}
+
+/// Lends the counter the definitions of the innermost block, which has these marks, to pass over records.
+fn lend_records<R: RunCounter>(
+    next: Coming<'_>,
+    marks: Marks,
+    definitions: &mut Definitions,
+    counter: &mut R,
+) -> Result<PassedRun, AllocError>
+    requires stands { (outer : List Marks) × Stands definitions.old (marks ∷ outer) }
+    requires width { next.width ≤ 32 }
+    requires lists { R.lists ≡ false }
+    ensures keeps { KeepsBlock marks definitions.old definitions.new }
+    ensures counts { IfOk result (λ run. CountsRun R.counted (in_force definitions.old marks) next.entry
+        counter.old run counter.new) }
+{
+    let mut block = BlockDefinitions::of(definitions, marks);
+    pass_records(next, &mut block, counter)
 }
 
 impl<S: Source, V: ValueKeeper> EventFinder<S, V> {
@@ -172,16 +207,6 @@ impl<S: Source, V: ValueKeeper> EventFinder<S, V> {
         Ok(())
     }
 
-    /// Forgets the last event and its values, so that values are held once, since a record came behind it that ends at a bit.
-    #[inline(always)]
-    fn forget(&mut self, after: u64) {
-        self.reached = after;
-        if self.found.is_some() {
-            self.values.clear();
-            self.found = None;
-        }
-    }
-
     /// Reads the next event if it is a complete record: gives its values to the value sink and returns the record without them. If
     /// it is not, or if a value is not taken, it returns `None`, some values may have been added, and `next` finds the event.
     #[inline(always)]
@@ -201,7 +226,8 @@ impl<S: Source, V: ValueKeeper> EventFinder<S, V> {
         let first = bits.position();
         let read = self.machine.plain_record(bits, values)?;
         self.reader.catch_up(read.after - first);
-        self.forget(read.after);
+        forget(&mut self.found, &mut self.values);
+        self.reached = read.after;
         Some(read)
     }
 
@@ -215,6 +241,7 @@ impl<S: Source, V: ValueKeeper> EventFinder<S, V> {
         let Some(frame) = self.machine.frames.last() else {
             return Ok(0);
         };
+        let frame = *frame;
         if !frame.is_plain() || !self.reader.is_live() {
             return Ok(0);
         }
@@ -227,16 +254,28 @@ impl<S: Source, V: ValueKeeper> EventFinder<S, V> {
         };
         let first = next.bits.position();
         let mut passing = Passing { left: most };
-        let definitions = BlockDefinitions::of(&mut self.machine.definitions, frame.marks);
-        let Ok(run) = pass_records(next, definitions, &mut passing) else {
+        let Ok(run) = lend_records(next, frame.marks, &mut self.machine.definitions, &mut passing)
+        else {
             return Err(self.reader.fail(Fault::Memory));
         };
         if passing.left < most {
             self.machine.used += room - run.room;
             self.reader.catch_up(run.after - first);
-            self.forget(run.after);
+            forget(&mut self.found, &mut self.values);
+            self.reached = run.after;
         }
         Ok(most - passing.left)
+    }
+
+    /// Passes over the next event, if there is one, and returns whether there was.
+    fn pass_one(&mut self) -> Result<bool, Fault>
+        ensures { PassesNext self.old result self.new }
+    {
+        if let Some(_read) = self.record(&mut ValueCount::new()) {
+            return Ok(true);
+        }
+        self.find()?;
+        Ok(!self.over)
     }
 
     /// Passes over the next events, at most `most`, and returns how many they are: fewer only if the whole input is accepted. It fails
@@ -245,23 +284,20 @@ impl<S: Source, V: ValueKeeper> EventFinder<S, V> {
         ensures few { IfOk result (λ count. count ≤ most) }
         ensures passes { IfOk result (λ count. PassesEvents count self.old self.new) }
         ensures all { IfOk result (λ count. count < most → self.new.stage ≡ over) }
-        ensures fails { IfErr result (λ fault. (count : ℕ) × (mid : Coming)
+        ensures fails { IfErr result (λ fault. (count : ℕ) × (mid : coming.Coming)
             × PassesEvents count self.old mid × BreaksOff mid fault self.new) }
     {
         let mut left = most;
         while left > 0 {
             left -= self.pass_records(left)?;
             if left > 0 {
-                if self.record(&mut ValueCount::new()).is_none() {
-                    self.find()?;
-                    if self.over {
-                        return Ok(most - left);
-                    }
+                if !self.pass_one()? {
+                    return Ok(most - left);
                 }
                 left -= 1;
             }
         }
-        Ok(most)
+        Ok(most - left)
     }
 
     /// Drops all events that are left. They are not read, and the input counts as accepted.
@@ -269,7 +305,7 @@ impl<S: Source, V: ValueKeeper> EventFinder<S, V> {
         ensures { DropsEvents self.old self.new }
     {
         self.machine.drop_blocks();
-        self.forget(self.reached);
+        forget(&mut self.found, &mut self.values);
         self.over = true;
     }
 
@@ -313,6 +349,14 @@ struct Passing {
 }
 
 impl RunCounter for Passing {
+    ghost use Rattle.std.specs.Prelude.{◌≡◌, ◌+◌, length};
+
+    ghost counted = { λ first records last. first.left ≡ length records + last.left };
+
+    ghost asks = { false };
+
+    ghost lists = { false };
+
     #[inline(always)]
     fn count(&mut self, _passed: CountedRecord, _values: &[u64]) -> Result<bool, AllocError> {
         if self.left == 0 {
