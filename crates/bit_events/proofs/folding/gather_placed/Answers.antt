@@ -55,7 +55,7 @@ pub at-bits-requires-clause-to : goal.at-bits-requires-clause-to
 at-bits-requires-clause-to g c =
     let m = c.gather_records.new.machine in
     let steps = subst (λ (o : Option Step). StepsHere (step m.limits (machine_shown m)) m.limits.depth m (placed c.in_ok-bits.bits) o c.placed_step.new.self) c.in-Some.is c.in_ok-step.ensures.steps in
-    rw c.after-bits.ensures (step_few (step m.limits (machine_shown m)) m.limits.depth m (placed c.in_ok-bits.bits) c.in-Some.step c.placed_step.new.self steps)
+    rw c.after.ensures (step_few (step m.limits (machine_shown m)) m.limits.depth m (placed c.in_ok-bits.bits) c.in-Some.step c.placed_step.new.self steps)
 
 pub hand_on-requires-clause-sound : goal.hand_on-requires-clause-sound
 hand_on-requires-clause-sound g c =
@@ -85,7 +85,7 @@ loop-bits-preserved g c =
     let moves = subst (λ (o : Option Step). IfSome o (λ (step : Step). here.position < bit_after step)) c.in-Some.is c.in_ok-step.ensures.moves in
     let more = on_found g.G.Gatherer.gathered t.machine.limits t.machine here t.gatherer was.0 found u h steps moves (c.in_ok-hand_on.ensures.gathers was.0 was.1) in
     let ahead = subst (λ (l : Limits). GathersOn g.G.Gatherer.gathered l t.machine here t.gatherer u (beyond here (bit_after found - here.position)) h) all.same_limits more in
-    let is : placed c.at-bits.result ≡ beyond here (bit_after found - here.position) = c.at-bits.ensures ∙ ap (λ (q : ℕ). beyond here (q - here.position)) c.after-bits.ensures in
+    let is : placed c.at-bits.result ≡ beyond here (bit_after found - here.position) = c.at-bits.ensures ∙ ap (λ (q : ℕ). beyond here (q - here.position)) c.after.ensures in
     record {
       on = rw is (on_both g.G.Gatherer.gathered m.limits m (placed c.args.from) c.args.gatherer.now t.machine here t.gatherer u (beyond here (bit_after found - here.position)) h all ahead);
       took = c.in_ok-hand_on.ensures.took;
