@@ -221,32 +221,39 @@ pub sees_shown : (r : Reader) (a : BufferedBits) (s : Reader) → r.live ≡ tru
 sees_shown r a s live shows = record { live = live; position = sym shows.position; front = shows.front }
 
 pub run_shown : {G : Type 0} (gathered : G → List Event → G → Type 0) (fails : G → Option Event → G → Type 0) (limits : Limits) (m : Machine) (r : Reader) (a : BufferedBits) (s : Reader) (g : G) (n : Machine) (after : ℕ) (h : G) → r.live ≡ true → ShowsBits r a s → GathersUpTo gathered limits m a g n after h → TakesRun gathered fails limits m r g (Ok tt) n (reader_further s (after - a.position)) h
-run_shown gathered fails limits m r a s g n after h live shows (b, is, on) = record {
-  events = all.events;
-  live = looks.live ∙ live;
-  pays = subst (λ (x : ℕ). Spends r.incoming r.budget s.incoming x) (sym looks.budget) (looked_spends r.incoming s.incoming r.budget looks.looked);
-  forward = omega (arith, looks.position);
-  aligned = λ none. rw place (all.aligned none);
-  told = λ k. all.told k ∙ ap (λ (x : Extent × ℕ × List Bool). (let told = told_of limits x.0 (machine_shown n) x.1 x.2 in (all.events ++ told.0, told.1))) (same k);
-  leads = record { bits = all.leads.bits; leads = all.leads.leads; position = place ∙ all.leads.position; end = looks.end; limit = looks.limit };
-  gathers = all.gathers;
-}
-  where
-    looks : OnlyLooks r s
-    looks = shows.looks
-
-    all : GathersSome gathered limits m r g n (reader_further r (b.position - a.position)) h
-    all = (on.gathers r (sees_shown r a s live shows)).0
-
-    place : s.position + (after - a.position) ≡ r.position + (b.position - a.position)
-    place = omega (arith, looks.position, is)
-
-    left : TellsBytes r → drop (after - a.position) s.left ≡ drop (b.position - a.position) r.left
-    left k = ap (λ (n : ℕ). drop (n - a.position) s.left) (sym is) ∙ ap (drop (b.position - a.position)) (looks.left k)
-
-    same : (k : TellsBytes r) → ◌≡◌ {A = Extent × ℕ × List Bool} (r.extent, r.position + (b.position - a.position), drop (b.position - a.position) r.left) (s.extent, s.position + (after - a.position), drop (after - a.position) s.left)
-    same k = rw (place, left k, looks.extent k) refl
+run_shown gathered fails limits m r a s g n after h live shows (b, is, on) =
+    let looks : OnlyLooks r s = shows.looks in
+    let all : GathersSome gathered limits m r g n (reader_further r (b.position - a.position)) h = (on.gathers r (sees_shown r a s live shows)).0 in
+    let place : s.position + (after - a.position) ≡ r.position + (b.position - a.position) = omega (arith, looks.position, is) in
+    let left : TellsBytes r → drop (after - a.position) s.left ≡ drop (b.position - a.position) r.left = λ k. ap (λ (q : ℕ). drop (q - a.position) s.left) (sym is) ∙ ap (drop (b.position - a.position)) (looks.left k) in
+    let same : (k : TellsBytes r) → ◌≡◌ {A = Extent × ℕ × List Bool} (r.extent, r.position + (b.position - a.position), drop (b.position - a.position) r.left) (s.extent, s.position + (after - a.position), drop (after - a.position) s.left) = λ k. rw (place, left k, looks.extent k) refl in
+    record {
+      events = all.events;
+      live = looks.live ∙ live;
+      pays = subst (λ (x : ℕ). Spends r.incoming r.budget s.incoming x) (sym looks.budget) (looked_spends r.incoming s.incoming r.budget looks.looked);
+      forward = omega (arith, looks.position);
+      aligned = λ none. rw place (all.aligned none);
+      told = λ k. all.told k ∙ ap (λ (x : Extent × ℕ × List Bool). (let told = told_of limits x.0 (machine_shown n) x.1 x.2 in (all.events ++ told.0, told.1))) (same k);
+      leads = record { bits = all.leads.bits; leads = all.leads.leads; position = place ∙ all.leads.position; end = looks.end; limit = looks.limit };
+      gathers = all.gathers;
+    }
 
 -- what was gathered is there
 pub run_there : {G : Type 0} (gathered : G → List Event → G → Type 0) (limits : Limits) (m : Machine) (r : Reader) (a : BufferedBits) (s : Reader) (g : G) (n : Machine) (after : ℕ) (h : G) → ShowsBits r a s → GathersUpTo gathered limits m a g n after h → (a.position ≤ after) × (after - a.position ≤ s.there)
 run_there gathered limits m r a s g n after h shows up = (let there = up_to_there gathered limits m a g n after h up in (there.0, omega (arith, there.1, shows.there, shows.looks.there)))
+
+-- ---- a step that was found
+
+found_passed : (rule : Grammar (Event × machine.Machine)) (deepest : ℕ) (m : Machine) (a : BufferedBits) (found : Step) (n : Machine) (steps : StepsHere rule deepest m a (Some found) n) → Passed a steps.0
+found_passed rule deepest m a found n steps = step_passed rule deepest m a (step_shown n [] found) n steps.0 (steps.2 [])
+
+-- its bits are there
+pub step_few : (rule : Grammar (Event × machine.Machine)) (deepest : ℕ) (m : Machine) (a : BufferedBits) (found : Step) (n : Machine) → StepsHere rule deepest m a (Some found) n → bit_after found ≤ a.position + length a.bits
+step_few rule deepest m a found n steps = (let p = found_passed rule deepest m a found n steps in omega (arith, p.2, ap length p.1, length-append p.0 steps.0.bits, steps.1))
+
+-- and then the bits behind it come
+pub on_found : {G : Type 0} (gathered : G → List Event → G → Type 0) (limits : Limits) (m : Machine) (a : BufferedBits) (g : G) (list : List ℕ) (found : Step) (n : Machine) (h : G) → StepsHere (step limits (machine_shown m)) limits.depth m a (Some found) n → a.position < bit_after found → Gathers gathered g (step_shown n list found) h → GathersOn gathered limits m a g n (beyond a (bit_after found - a.position)) h
+on_found gathered limits m a g list found n h steps moves gathers =
+    let on : GathersOn gathered limits m a g n steps.0 h = on_step gathered limits m a g (step_shown n list found) n steps.0 h (steps.2 list) (omega (arith, moves, steps.1)) gathers in
+    let here : beyond a (bit_after found - a.position) ≡ steps.0 = passed_beyond a steps.0 (bit_after found - a.position) on.passed (ap (λ (q : ℕ). q - a.position) (sym steps.1)) in
+    subst (λ (b : BufferedBits). GathersOn gathered limits m a g n b h) (sym here) on
