@@ -1,7 +1,7 @@
-use Rattle.std.proofs.Common.{◌≡◌, ◌-◌, length, not, sym, ap, ◌∙◌, arith, ltb-true, vec_len}
+use Rattle.std.proofs.Common.{length, not, sym, ap, ◌∙◌, arith, ltb-true}
 use Rattle.std.proofs.lemmas.Result.{err_from_is_err_and}
 use Rattle.bit_fields.specs.PlacedView.{placed}
-use Rattle.bit_events.specs.MachineView.{is_info, InPlain}
+use Rattle.bit_events.specs.MachineView.{is_info}
 use Rattle.bit_events.specs.Runs.{GathersOn}
 use Rattle.bit_events.proofs.Blocks.{on_aligned, on_none, up_to_there}
 use Rattle.bit_events.proofs.Noting.{on_place, stop_later, up_to_later}
