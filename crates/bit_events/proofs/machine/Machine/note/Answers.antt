@@ -38,16 +38,16 @@ in_force-definitions-requires-clause-marks g c =
     (open_marks m frame _ c.requires.sound was).1
 
 pub describe_by-requires : goal.describe_by-requires
-describe_by-requires g c = (c.in_ok-code.ensures.adds [] c.clear.ensures).2.0.2.live
+describe_by-requires g c = (c.in_ok-code.ensures [] c.clear.ensures).2.0.2.live
 
 pub overflow_add-self : goal.overflow_add-self
 overflow_add-self g c =
-    let read = c.in_ok-code.ensures.adds [] c.clear.ensures in
+    let read = c.in_ok-code.ensures [] c.clear.ensures in
     omega (arith, c.count.ensures read.0 read.1.0, read.2.1, c.room-room.ensures.capped, c.room-room.ensures.room)
 
 pub returns-in_err-code-clause-takes : goal.returns-in_err-code-clause-takes
 returns-in_err-code-clause-takes g c =
-    let read = c.in_err-code.ensures.adds [] c.clear.ensures in
+    let read = c.in_err-code.ensures [] c.clear.ensures in
     let p = err_from_is_err_and c.from_residual.result c.from_residual.ensures.1 in (
       read.0,
       read.1.0,
@@ -66,7 +66,7 @@ returns-in_err-code-clause-takes g c =
 
 pub returns-in_err-describe_by-clause-takes : goal.returns-in_err-describe_by-clause-takes
 returns-in_err-describe_by-clause-takes g c =
-    let read = c.in_ok-code.ensures.adds [] c.clear.ensures in
+    let read = c.in_ok-code.ensures [] c.clear.ensures in
     let p = err_from_is_err_and c.from_residual-in_err-describe_by.result c.from_residual-in_err-describe_by.ensures.1 in (
       read.0,
       read.1.0,
@@ -87,7 +87,7 @@ returns-in_err-describe_by-clause-takes g c =
 
 pub returns-clause-takes : goal.returns-clause-takes
 returns-clause-takes g c =
-    let read = c.in_ok-code.ensures.adds [] c.clear.ensures in
+    let read = c.in_ok-code.ensures [] c.clear.ensures in
     let many : c.count.result ≡ length read.0 = counted c.count.result (length read.0) (length read.0) (c.count.ensures read.0 read.1.0) (omega (arith, read.2.1, c.room-room.ensures.capped, c.room-room.ensures.room)) (c.count.ensures read.0 read.1.0) in (
       read.0,
       read.1.0,
@@ -120,7 +120,7 @@ returns-clause-leaves g c = λ deepest list.
     let was = open_last_of m frame c.requires.some c.in-Some.ensures.value in
     let new = c.describe_by.new.frame in
     let n : Machine = record m { frames = with_item m.frames (vec_len m.frames - 1) new; used = m.used + c.count.result } in
-    let read = c.in_ok-code.ensures.adds [] c.clear.ensures in
+    let read = c.in_ok-code.ensures [] c.clear.ensures in
     let described = c.in_ok-describe_by.ensures.takes (table_in m.definitions.made) read.0 read.1.1 in
     record {
       stands = c.requires.some;
